@@ -1,0 +1,2 @@
+-- What the contracts cite: little-endian numbers in lists of bytes. Assumes nothing.
+pub mod Number
