@@ -159,5 +159,5 @@ module _ (m : List ℕ) (at : ℕ) (s : State) (whole : at % 128 ≡ 0) (e : s �
       let q : at / 128 ≡ length m / 128 = omega arith in
       let place : at ≡ 128 * (at / 128) = omega arith in
       ap₂ (λ (r : State) (b : List ℕ). finished r b (length m)) e
-        (take-all (length m - at) (drop at m) (omega (arith, length-drop at m)) ∙ ap (λ (i : ℕ). drop i m) place)
+      (take-all (length m - at) (drop at m) (omega (arith, length-drop at m)) ∙ ap (λ (i : ℕ). drop i m) place)
       ∙ sym (pieces m (at / 128) q)

@@ -110,9 +110,10 @@ abbrev Begun : List ℕ → List ℕ → ℕ → Type 0
 Begun b xs i = (length xs ≡ i) × (b ≡ sets (replicate 48 0) 0 xs)
 
 begun-more : (b b′ xs : List ℕ) (i w : ℕ) → Begun b xs i → b′ ≡ sets b i (bytes 8 w) → Begun b′ (xs ++ bytes 8 w) (i + 8)
-begun-more b b′ xs i w h e =
-    (length-append xs (bytes 8 w) ∙ omega (arith, h .0, length-bytes 8 w),
-      e ∙ ap (λ (r : List ℕ). sets r i (bytes 8 w)) (h .1) ∙ sets-then (replicate 48 0) xs (bytes 8 w) 0 i (omega (arith, h .0)))
+begun-more b b′ xs i w h e = (
+  length-append xs (bytes 8 w) ∙ omega (arith, h .0, length-bytes 8 w),
+  e ∙ ap (λ (r : List ℕ). sets r i (bytes 8 w)) (h .1) ∙ sets-then (replicate 48 0) xs (bytes 8 w) 0 i (omega (arith, h .0)),
+)
 
 pub digest-is : (s : State) (b₁ b₂ b₃ b₄ b₅ b₆ : List ℕ)
     → b₁ ≡ sets (replicate 48 0) 0 (bytes 8 (s .a))

@@ -16,7 +16,7 @@ use Rattle.sha384.proofs.start.Reads as start-reads
 use Rattle.sha384.proofs.table.Reads as table-reads
 
 abbrev Inv-loop : tie.InvT-loop
-Inv-loop message table state₀ at₀ state at = 
+Inv-loop message table state₀ at₀ state at =
     (at ≤ length message) × (at % 128 ≡ 0) × (state ≡ after H⁰ message (at / 128))
 
 abbrev μ-loop : tie.MeasureT-loop
@@ -64,7 +64,7 @@ loop-less c = search needs
 
 -- src/lib.rt:86:5
 loop-again : tie.Need-loop-again Inv-loop μ-loop
-loop-again c = 
+loop-again c =
     let b = c .before .before .before .before in
     (omega arith, omega arith, c .block .ensures ∙ part-more (b .before .before .before .before .args .message .now) (b .loop .at) (b .loop .state) (b .loop .inv .1) (b .loop .inv .2))
 
@@ -86,7 +86,7 @@ finish-requires c κs = search needs
 
 -- src/lib.rt:80:1
 returns : tie.Need-returns Inv-loop μ-loop
-returns c = 
+returns c =
     let b = c .before .before .before .before in
     let m = b .before .before .before .before .args .message .now in
     c .finish .ensures ∙ part-end m (b .loop .at) (b .loop .state) (b .loop .inv .1) (b .loop .inv .2) (b .loop .inv .0) (omega arith)

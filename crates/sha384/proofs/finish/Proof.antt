@@ -44,7 +44,7 @@ left-384-requires c κs = search needs
 
 -- src/lib.rt:74:9
 returns : tie.Need-returns
-returns c = 
+returns c =
     let start = c .before .before .before .before .before .before .before .before in
     let left = start .args .left .now in
     let one : length left + 17 + zeros (length left) ≡ 128 = omega arith in
@@ -72,7 +72,7 @@ left-384-requires-2 c κs = search needs
 
 -- src/lib.rt:65:1
 returns-2 : tie.Need-returns-2
-returns-2 c = 
+returns-2 c =
     let start = c .before .before .before .before .before .before .before .before .before .before .before in
     let left = start .args .left .now in
     let two : length left + 17 + zeros (length left) ≡ 128 → ⊥ = λ h. omega arith in

@@ -37,7 +37,7 @@ sub-put-word c = search needs
 
 -- src/padding.rt:54:5
 put-word-requires : tie.Need-put-word-requires
-put-word-requires c κs = 
+put-word-requires c κs =
     let n = length (c .before .before .before .before .before .before .args .left .now) in
     simp length-set (omega (arith, zeros-fit n, c .before .before .before .copy .kept .0))
 
@@ -55,13 +55,13 @@ mul-put-word c = search needs
 
 -- src/padding.rt:55:5
 put-word-requires-2 : tie.Need-put-word-requires-2
-put-word-requires-2 c κs = 
+put-word-requires-2 c κs =
     let n = length (c .before .before .before .before .before .before .before .before .before .args .left .now) in
     omega (arith, zeros-fit n, c .before .before .put-word .kept .0, c .before .before .before .before .before .before .copy .kept .0)
 
 -- src/padding.rt:44:1
 returns : tie.Need-returns
-returns c = 
+returns c =
     let start = c .before .before .before .before .before .before .before .before .before .before .before in
     let left = start .args .left .now in
     cc (last-is left (start .args .total) (length left) (c .before .before .before .before .before .before .end .result) (start .pre) refl (c .before .before .before .before .before .before .end .ensures))

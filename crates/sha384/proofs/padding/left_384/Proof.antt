@@ -56,7 +56,7 @@ put-word-requires-6 c κs = search needs
 
 -- src/padding.rt:60:1
 returns : tie.Need-returns
-returns c = 
+returns c =
     digest-is _ _ _ _ _ _ _ (c .before .before .before .before .before .before .before .before .before .before .before .before .before .before .before .before .put-word .ensures) (c .before .before .before .before .before .before .before .before .before .before .before .before .before .put-word2 .ensures) (c .before .before .before .before .before .before .before .before .before .before .put-word3 .ensures) (c .before .before .before .before .before .before .before .put-word4 .ensures) (c .before .before .before .before .put-word5 .ensures) (c .before .put-word6 .ensures)
 
 pub left-384-spec : {M : Type 1} → statement M
