@@ -1,8 +1,8 @@
 -- The definition computed: FIPS 180-4's own example of one block, the message "abc". The checker runs the whole hash.
 -- Assumes nothing.
 use mathlib.Core.Path.{_≡_, refl}
-use mathlib.Core.List.{List, [], _∷_}
 use Prim.Native.Nat.{ℕ}
+use mathlib.Core.List.{List, [], _∷_}
 use Rattle.sha384.specs.Words.{wordAt, bytes}
 use Rattle.sha384.specs.Constants.{K, H⁰}
 use Rattle.sha384.specs.Padding.{zeros, padding, padded, block}

@@ -1,20 +1,27 @@
--- How the definitions of specs/Hash grow: the message schedule by one word, the rounds by one, the hash value by one block.
+-- How the definitions of specs/Hash grow: the message schedule by one word, the rounds by one, the hash value by one block;
+-- and the last block or two of a message.
 -- Assumes nothing.
 use mathlib.Core.Path.{_≡_, refl, sym, ap, ap₂, _∙_}
-use mathlib.Core.List.{List, [], _∷_, _++_, append-assoc}
 use Prim.Native.Nat.{ℕ, zero, suc, _+_, _-_, _*_, _/_, _%_, _≤_, _<_}
 use native.Mathlib.Nat.{add-zero, add-suc}
 use native.Mathlib.Numerals.{add-one}
 use native.Mathlib.Omega.{arith}
-use borrow.Author.Tests.{lt-ltb, le-ltb}
+use mathlib.Core.List.{List, _++_, append-assoc}
 use lib.ListN.{length, getD, take, drop, set, replicate, length-append, length-drop, take-append-drop}
 use lib.Seq.{take-suc-set, getD-take, take-append-le, drop-append-le, drop-append-add, length-take-le, take-all}
+use borrow.Author.Tests.{lt-ltb, le-ltb}
 use Rattle.sha384.specs.declared.State.{State}
 use Rattle.sha384.specs.Words.{wordAt}
 use Rattle.sha384.specs.Constants.{K, H⁰}
 use Rattle.sha384.specs.Padding.{zeros, padding, padded, block}
 use Rattle.sha384.specs.Hash.{schedule, nextWord, laterWord, round, rounds, compressed, after, left384, sha384, finished}
 use Rattle.sha384.proofs.Pad.{zeros-left, length-padding}
+
+-- a state, word by word
+pub state-is : {a b c d e f g h a′ b′ c′ d′ e′ f′ g′ h′ : ℕ} → a ≡ a′ → b ≡ b′ → c ≡ c′ → d ≡ d′ → e ≡ e′ → f ≡ f′ → g ≡ g′ → h ≡ h′
+    → _≡_ {A = State} (record { a = a; b = b; c = c; d = d; e = e; f = f; g = g; h = h })
+    (record { a = a′; b = b′; c = c′; d = d′; e = e′; f = f′; g = g′; h = h′ })
+state-is p q r s t u v w = cc
 
 -- ---- the schedule
 
@@ -48,9 +55,9 @@ pub rounds-none : (s : State) (W : List ℕ) → s ≡ rounds s W 0
 unfolding rounds
 rounds-none s W = refl
 
-pub rounds-more : (s : State) (W : List ℕ) (t : ℕ) → round (rounds s W t) (getD K t 0) (getD W t 0) ≡ rounds s W (t + 1)
+pub rounds-more : (s v : State) (W k : List ℕ) (t : ℕ) → k ≡ K → v ≡ rounds s W t → round v (getD k t 0) (getD W t 0) ≡ rounds s W (t + 1)
 unfolding rounds
-rounds-more s W t = rw (add-one t)
+rounds-more s v W k t e h = rw (add-one t, e, h)
 
 -- ---- the blocks
 

@@ -1,15 +1,17 @@
--- The padding of FIPS 180-4, section 5.1.2: how long it is, that it is the least, and its length field in two words.
+-- The padding of FIPS 180-4, section 5.1.2: how long it is, that it is the least, and its length field in two words; and
+-- what the code writes of it, and of the digest, into an array of zeros.
 -- Assumes nothing.
 use mathlib.Core.Path.{_≡_, refl, sym, ap, ap₂, _∙_}
-use mathlib.Core.List.{List, [], _∷_, _++_, append-assoc, append-nil, reverse, reverseAux-eq}
 use Prim.Native.Nat.{ℕ, zero, suc, _+_, _-_, _*_, _/_, _%_, _^_, _≤_, _<_}
 use native.Mathlib.Nat.{add-zero, add-suc, div-one, div-div-eq-div-mul, pow-succ'}
+use native.Mathlib.Numerals.{sub-one}
 use native.Mathlib.Omega.{arith}
+use mathlib.Core.List.{List, [], _∷_, _++_, append-assoc, append-nil, reverse, reverseAux-eq}
 use lib.ListN.{length, set, replicate, length-append, length-replicate, length-reverse}
 use lib.Seq.{sets}
 use Rattle.wire.specs.Number.{le}
 use Rattle.wire.proofs.Digits.{length-le, le-mod}
-use Rattle.wire.proofs.Sets.{sets-then, sets-gap, sets-replicate}
+use Rattle.wire.proofs.Sets.{sets-then, sets-swap, sets-gap, sets-replicate}
 use Rattle.sha384.specs.declared.State.{State}
 use Rattle.sha384.specs.Words.{bytes}
 use Rattle.sha384.specs.Padding.{zeros, padding}
@@ -59,6 +61,17 @@ bytes-split m (suc k) v =
     ∙ ap (λ (w : ℕ). bytes m w ++ (bytes k (v / 256) ++ (v % 256 ∷ [])))
     (div-div-eq-div-mul v 256 (256 ^ k) ∙ ap (λ (p : ℕ). v / p) (sym (pow-succ' 256 k)))
 
+-- writing the last byte first, and then the others
+pub bytes-last : (b : List ℕ) (at n v : ℕ) → 0 < n → sets (set b (at + (n - 1)) (v % 256)) at (bytes (n - 1) (v / 256)) ≡ sets b at (bytes n v)
+unfolding bytes
+bytes-last b at zero v h = absurd (omega arith)
+bytes-last b at (suc n) v h =
+    let high : List ℕ = bytes n (v / 256) in
+    let low : List ℕ = v % 256 ∷ [] in
+    ap (λ (k : ℕ). sets (set b (at + k) (v % 256)) at (bytes k (v / 256))) (sub-one (suc n))
+    ∙ sym (sets-swap b high low at (at + n) (omega (arith, length-bytes n (v / 256))))
+    ∙ sets-then b high low at (at + n) (ap (λ (k : ℕ). at + k) (length-bytes n (v / 256)))
+
 -- the length field, 8 * n in 128 bits, in two words neither of which needs the product whole
 pub length-field : (n : ℕ) → bytes 16 (8 * n) ≡ bytes 8 (n / 2 ^ 61) ++ bytes 8 (n % 2 ^ 61 * 8)
 length-field n =
@@ -73,7 +86,36 @@ length-padding n =
     ap suc (length-append (replicate (zeros n) 0) (bytes 16 (8 * n)))
     ∙ omega (arith, length-replicate {A = ℕ} (zeros n) 0, length-bytes 16 (8 * n))
 
--- ---- what the code writes into zeros
+-- ---- what the code writes into zeros, from the front on
+
+-- b is N zeros with xs, which are i bytes, written at its start
+record Begun (N : ℕ) (b xs : List ℕ) (i : ℕ) : Type 0 where
+  long : length xs ≡ i
+  is : b ≡ sets (replicate N 0) 0 xs
+
+-- the next bytes are written behind them
+begun-more : {N : ℕ} {b b′ xs : List ℕ} {i j : ℕ} (ys : List ℕ) → i + length ys ≡ j → Begun N b xs i → b′ ≡ sets b i ys → Begun N b′ (xs ++ ys) j
+begun-more {N} {b} {b′} {xs} {i} ys l h e =
+    record {
+      long = length-append xs ys ∙ omega (arith, h .long, l);
+      is = e ∙ ap (λ (r : List ℕ). sets r i ys) (h .is) ∙ sets-then (replicate N 0) xs ys 0 i (omega (arith, h .long));
+    }
+
+-- a word is
+begun-word : {N : ℕ} {b b′ xs : List ℕ} {i j : ℕ} (w : ℕ) → i + 8 ≡ j → Begun N b xs i → b′ ≡ sets b i (bytes 8 w) → Begun N b′ (xs ++ bytes 8 w) j
+begun-word {i = i} w l h e = begun-more (bytes 8 w) (ap (λ (k : ℕ). i + k) (length-bytes 8 w) ∙ l) h e
+
+-- what is passed over is zeros
+begun-zeros : {N : ℕ} {b xs : List ℕ} {i j : ℕ} (k : ℕ) → i + k ≡ j → j ≤ N → Begun N b xs i → Begun N b (xs ++ replicate k 0) j
+begun-zeros {N} {b} {xs} k l f h =
+    record {
+      long = length-append xs (replicate k 0) ∙ omega (arith, h .long, length-replicate {A = ℕ} k 0, l);
+      is = h .is ∙ sets-gap N k 0 xs (omega (arith, h .long, l, f));
+    }
+
+-- and so is the rest
+begun-end : {N : ℕ} {b xs : List ℕ} {i : ℕ} → i ≤ N → Begun N b xs i → b ≡ xs ++ replicate (N - length xs) 0
+begun-end {N} {b} {xs} f h = h .is ∙ sets-replicate N 0 xs (omega (arith, h .long, f))
 
 padding-parts : (left : List ℕ) (n : ℕ)
     → (((left ++ (0x80 ∷ [])) ++ replicate (zeros n) 0) ++ bytes 8 (n / 2 ^ 61)) ++ bytes 8 (n % 2 ^ 61 * 8) ≡ left ++ padding n
@@ -81,40 +123,23 @@ unfolding padding
 padding-parts left n = rw (length-field n) (simp append-assoc)
 
 -- the last block or two: what is left, the bit 1, a gap of zeros, and the two words of the length
-pub last-is : (left : List ℕ) (n at behind : ℕ) → length left ≡ n % 128 → at ≡ length left → behind ≡ at + 17 + zeros at
-    → sets (sets (set (sets (replicate 256 0) 0 left) at 0x80) (behind - 16) (bytes 8 (n / 2 ^ 61))) (behind - 8) (bytes 8 (n % 2 ^ 61 * 8))
-    ≡ (left ++ padding n) ++ replicate (256 - length (left ++ padding n)) 0
-last-is left n at behind l a b =
-    let Z : List ℕ = replicate 256 0 in
-    let gap : List ℕ = replicate (zeros n) 0 in
-    let high : List ℕ = bytes 8 (n / 2 ^ 61) in
-    let low : List ℕ = bytes 8 (n % 2 ^ 61 * 8) in
-    let marked : List ℕ = left ++ (0x80 ∷ []) in
-    let z : zeros at ≡ zeros n = ap zeros (a ∙ l) ∙ zeros-left n in
-    let lm : length marked ≡ length left + 1 = length-append left (0x80 ∷ []) in
-    let lg : length (marked ++ gap) ≡ length left + 1 + zeros n =
-    length-append marked gap ∙ omega (arith, lm, length-replicate {A = ℕ} (zeros n) 0) in
-    let lh : length ((marked ++ gap) ++ high) ≡ length left + 9 + zeros n =
-    length-append (marked ++ gap) high ∙ omega (arith, lg, length-bytes 8 (n / 2 ^ 61)) in
-    let whole : ((marked ++ gap) ++ high) ++ low ≡ left ++ padding n = padding-parts left n in
-    let fit : n % 128 + 17 + zeros n ≤ 256 = zeros-fit n in
-    ap (λ (r : List ℕ). sets (sets r (behind - 16) high) (behind - 8) low)
-    (sets-then Z left (0x80 ∷ []) 0 at (omega arith) ∙ sets-gap 256 (zeros n) 0 marked (omega arith))
-    ∙ ap (λ (r : List ℕ). sets r (behind - 8) low) (sets-then Z (marked ++ gap) high 0 (behind - 16) (omega arith))
-    ∙ sets-then Z ((marked ++ gap) ++ high) low 0 (behind - 8) (omega arith)
-    ∙ ap (λ (r : List ℕ). sets Z 0 r) whole
-    ∙ sets-replicate 256 0 (left ++ padding n) (omega (arith, length-append left (padding n), length-padding n))
+pub last-is : (left b₁ b₂ b₃ : List ℕ) (n behind : ℕ) → length left ≡ n % 128 → behind ≡ length left + 17 + zeros (length left)
+    → b₁ ≡ sets (replicate 256 0) 0 left
+    → b₂ ≡ sets (set b₁ (length left) 0x80) (behind - 16) (bytes 8 (n / 2 ^ 61))
+    → b₃ ≡ sets b₂ (behind - 8) (bytes 8 (n % 2 ^ 61 * 8))
+    → b₃ ≡ (left ++ padding n) ++ replicate (256 - length (left ++ padding n)) 0
+last-is left b₁ b₂ b₃ n behind l b e₁ e₂ e₃ =
+    let end : behind ≡ length left + 17 + zeros n = b ∙ ap (λ (z : ℕ). length left + 17 + z) (ap zeros l ∙ zeros-left n) in
+    let fit : behind ≤ 256 = omega (arith, end, l, zeros-fit n) in
+    let copied : Begun 256 b₁ left (length left) = record { long = refl; is = e₁ } in
+    let marked : Begun 256 (set b₁ (length left) 0x80) (left ++ (0x80 ∷ [])) (length left + 1) =
+    begun-more (0x80 ∷ []) refl copied refl in
+    let passed : Begun 256 (set b₁ (length left) 0x80) ((left ++ (0x80 ∷ [])) ++ replicate (zeros n) 0) (behind - 16) =
+    begun-zeros (zeros n) (omega (arith, end)) (omega (arith, fit)) marked in
+    begun-end fit (begun-word (n % 2 ^ 61 * 8) (omega (arith, end)) (begun-word {j = behind - 8} (n / 2 ^ 61) (omega (arith, end)) passed e₂) e₃)
+    ∙ ap (λ (r : List ℕ). r ++ replicate (256 - length r) 0) (padding-parts left n)
 
--- the digest, word by word: its first i bytes are xs
-abbrev Begun : List ℕ → List ℕ → ℕ → Type 0
-Begun b xs i = (length xs ≡ i) × (b ≡ sets (replicate 48 0) 0 xs)
-
-begun-more : (b b′ xs : List ℕ) (i w : ℕ) → Begun b xs i → b′ ≡ sets b i (bytes 8 w) → Begun b′ (xs ++ bytes 8 w) (i + 8)
-begun-more b b′ xs i w h e = (
-  length-append xs (bytes 8 w) ∙ omega (arith, h .0, length-bytes 8 w),
-  e ∙ ap (λ (r : List ℕ). sets r i (bytes 8 w)) (h .1) ∙ sets-then (replicate 48 0) xs (bytes 8 w) 0 i (omega (arith, h .0)),
-)
-
+-- the digest, word by word
 pub digest-is : (s : State) (b₁ b₂ b₃ b₄ b₅ b₆ : List ℕ)
     → b₁ ≡ sets (replicate 48 0) 0 (bytes 8 (s .a))
     → b₂ ≡ sets b₁ 8 (bytes 8 (s .b))
@@ -125,19 +150,11 @@ pub digest-is : (s : State) (b₁ b₂ b₃ b₄ b₅ b₆ : List ℕ)
     → b₆ ≡ left384 s
 unfolding left384
 digest-is s b₁ b₂ b₃ b₄ b₅ b₆ e₁ e₂ e₃ e₄ e₅ e₆ =
-    let x₁ : List ℕ = bytes 8 (s .a) in
-    let x₂ : List ℕ = x₁ ++ bytes 8 (s .b) in
-    let x₃ : List ℕ = x₂ ++ bytes 8 (s .c) in
-    let x₄ : List ℕ = x₃ ++ bytes 8 (s .d) in
-    let x₅ : List ℕ = x₄ ++ bytes 8 (s .e) in
-    let h₂ : Begun b₂ x₂ 16 = begun-more b₁ b₂ x₁ 8 (s .b) (length-bytes 8 (s .a), e₁) e₂ in
-    let h₃ : Begun b₃ x₃ 24 = begun-more b₂ b₃ x₂ 16 (s .c) h₂ e₃ in
-    let h₄ : Begun b₄ x₄ 32 = begun-more b₃ b₄ x₃ 24 (s .d) h₃ e₄ in
-    let h₅ : Begun b₅ x₅ 40 = begun-more b₄ b₅ x₄ 32 (s .e) h₄ e₅ in
-    let h₆ : Begun b₆ (x₅ ++ bytes 8 (s .f)) 48 = begun-more b₅ b₆ x₅ 40 (s .f) h₅ e₆ in
-    full b₆ (x₅ ++ bytes 8 (s .f)) h₆
+    let one : Begun 48 b₁ (bytes 8 (s .a)) 8 = record { long = length-bytes 8 (s .a); is = e₁ } in
+    full
+    (begun-word (s .f) refl
+    (begun-word (s .e) refl (begun-word (s .d) refl (begun-word (s .c) refl (begun-word (s .b) refl one e₂) e₃) e₄) e₅)
+    e₆)
   where
-    full : (b xs : List ℕ) → Begun b xs 48 → b ≡ xs
-    full b xs h =
-        h .1 ∙ sets-replicate 48 0 xs (omega (arith, h .0))
-        ∙ ap (λ (n : ℕ). xs ++ replicate (48 - n) 0) (h .0) ∙ append-nil xs
+    full : {b xs : List ℕ} → Begun 48 b xs 48 → b ≡ xs
+    full {b} {xs} h = begun-end (omega arith) h ∙ ap (λ (n : ℕ). xs ++ replicate (48 - n) 0) (h .long) ∙ append-nil xs

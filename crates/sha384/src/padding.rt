@@ -10,26 +10,18 @@ ghost use Rattle.sha384.specs.Hash.{left384};
 use crate::State;
 use wire::copy;
 
-// Writes a word at `at`, the most significant byte first.
+// Writes a word at `at`, the most significant byte first: its bytes from the last to the first.
 pub fn put_word(buffer: &mut [u8], at: usize, word: u64)
     requires { ⌜ at + 8 ≤ length (now buffer) ⌝ }
     ensures { λ _. ⌜ now (buffer .exit) ≡ sets (now (buffer .entry)) at (bytes 8 word) ⌝ }
 {
-    let w6 = word / 256;
-    let w5 = w6 / 256;
-    let w4 = w5 / 256;
-    let w3 = w4 / 256;
-    let w2 = w3 / 256;
-    let w1 = w2 / 256;
-    let w0 = w1 / 256;
-    buffer[at] = (w0 % 256) as u8;
-    buffer[at + 1] = (w1 % 256) as u8;
-    buffer[at + 2] = (w2 % 256) as u8;
-    buffer[at + 3] = (w3 % 256) as u8;
-    buffer[at + 4] = (w4 % 256) as u8;
-    buffer[at + 5] = (w5 % 256) as u8;
-    buffer[at + 6] = (w6 % 256) as u8;
-    buffer[at + 7] = (word % 256) as u8;
+    let mut left = 8;
+    let mut rest = word;
+    while 0 < left {
+        left -= 1;
+        buffer[at + left] = (rest % 256) as u8;
+        rest = rest / 256;
+    }
 }
 
 // How long the last block or two are, together, where `left` bytes of the message are left for them.

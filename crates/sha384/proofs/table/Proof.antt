@@ -1,11 +1,9 @@
-use Rattle.sha384.specs.Constants.{K}
+-- `sha384::table` meets its contract: the eighty words are those of K. Assumes nothing.
 use borrow.Author.Needs.{needs}
+use Rattle.sha384.specs.Constants.{K}
 use Rattle.sha384.proofs.table.Statement.{statement}
 use Rattle.sha384.proofs.table.Tie as tie
-use Rattle.sha384.proofs.table.Reads as reads
-use Rattle.sha384.proofs.table.Lts as lts
 
--- src/lib.rt:29:1
 returns : tie.Need-returns
 unfolding K
 returns c = search needs

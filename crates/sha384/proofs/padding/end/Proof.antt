@@ -1,17 +1,14 @@
+-- `sha384::padding::end` meets its contract: with fewer than 112 bytes left, the bit 1, the zeros and the length fill one
+-- block, and with more they fill two. Assumes nothing.
 use native.Mathlib.Omega.{arith}
 use Rattle.sha384.specs.Padding.{zeros}
-use borrow.Author.Needs.{needs}
 use Rattle.sha384.proofs.padding.end.Statement.{statement}
 use Rattle.sha384.proofs.padding.end.Tie as tie
-use Rattle.sha384.proofs.padding.end.Reads as reads
-use Rattle.sha384.proofs.padding.end.Lts as lts
 
--- src/padding.rt:36:1
 returns : tie.Need-returns
 unfolding zeros
 returns c = omega arith
 
--- src/padding.rt:36:1
 returns-2 : tie.Need-returns-2
 unfolding zeros
 returns-2 c = omega arith

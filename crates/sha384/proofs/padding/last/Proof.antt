@@ -1,84 +1,35 @@
-use mathlib.Core.Path.{_≡_, refl}
-use Rattle.sha384.proofs.Pad.{zeros-fit, last-is}
-use lib.ListN.{length, length-set}
+-- `sha384::padding::last` meets its contract. The four writes go into zeros, each behind the one before, and what they pass
+-- over is the padding's zeros. Assumes nothing.
 use native.Mathlib.Omega.{arith}
+use lib.ListN.{length, length-set}
 use borrow.Author.Needs.{needs}
+use Rattle.sha384.proofs.Pad.{zeros-fit, last-is}
 use Rattle.sha384.proofs.padding.last.Statement.{statement}
 use Rattle.sha384.proofs.padding.last.Tie as tie
-use Rattle.sha384.proofs.padding.last.Reads as reads
-use Rattle.sha384.proofs.padding.last.Lts as lts
-use Rattle.sha384.proofs.padding.end.Reads as end-reads
-use Rattle.sha384.proofs.padding.put_word.Reads as put-word-reads
-use Rattle.wire.proofs.copy.Reads as copy-reads
 
--- src/padding.rt:49:10
-slice-aggregate-copy : tie.Need-slice-aggregate-copy
-slice-aggregate-copy c = search needs
-
--- src/padding.rt:49:5
-copy-requires : tie.Need-copy-requires
-copy-requires c κs = search needs
-
--- src/padding.rt:51:5
-array-write-last : tie.Need-array-write-last
-array-write-last c = search needs
-
--- src/padding.rt:52:9
-end-requires : tie.Need-end-requires
-end-requires c κs = search needs
-
--- src/padding.rt:54:14
-slice-aggregate-put-word : tie.Need-slice-aggregate-put-word
-slice-aggregate-put-word c = search needs
-
--- src/padding.rt:54:25
-sub-put-word : tie.Need-sub-put-word
-sub-put-word c = search needs
-
--- src/padding.rt:54:5
 put-word-requires : tie.Need-put-word-requires
 put-word-requires c κs =
-    let n = length (c .before .before .before .before .before .before .args .left .now) in
-    simp length-set (omega (arith, zeros-fit n, c .before .before .before .copy .kept .0))
+    let copied = c .before .before .before in
+    simp length-set (omega (arith, zeros-fit (length (copied .before .before .before .args .left .now)), copied .copy .kept .0))
 
--- src/padding.rt:55:14
-slice-aggregate-put-word-2 : tie.Need-slice-aggregate-put-word-2
-slice-aggregate-put-word-2 c = search needs
-
--- src/padding.rt:55:25
-sub-put-word-2 : tie.Need-sub-put-word-2
-sub-put-word-2 c = search needs
-
--- src/padding.rt:55:37
-mul-put-word : tie.Need-mul-put-word
-mul-put-word c = search needs
-
--- src/padding.rt:55:5
 put-word-requires-2 : tie.Need-put-word-requires-2
 put-word-requires-2 c κs =
-    let n = length (c .before .before .before .before .before .before .before .before .before .args .left .now) in
-    omega (arith, zeros-fit n, c .before .before .put-word .kept .0, c .before .before .before .before .before .before .copy .kept .0)
+    let first = c .before .before in
+    let copied = first .before .before .before .before in
+    omega (arith, zeros-fit (length (copied .before .before .before .args .left .now)), first .put-word .kept .0, copied .copy .kept .0)
 
--- src/padding.rt:44:1
 returns : tie.Need-returns
 returns c =
-    let start = c .before .before .before .before .before .before .before .before .before .before .before in
-    let left = start .args .left .now in
-    cc (last-is left (start .args .total) (length left) (c .before .before .before .before .before .before .end .result) (start .pre) refl (c .before .before .before .before .before .before .end .ensures))
+    let second = c .before in
+    let first = second .before .before .before in
+    let end = first .before .before in
+    let copied = end .before .before in
+    let start = copied .before .before .before in
+    last-is (start .args .left .now) (copied .copy .last .0) (first .put-word .last .0) (second .put-word2 .last .0)
+    (start .args .total) (end .end .result) (start .pre)
+    (end .end .ensures) (copied .copy .ensures) (first .put-word .ensures) (second .put-word2 .ensures)
 
 pub last-spec : {M : Type 1} → statement M
 last-spec =
     tie.close
-    (tie.spec
-    slice-aggregate-copy
-    copy-requires
-    array-write-last
-    end-requires
-    slice-aggregate-put-word
-    sub-put-word
-    put-word-requires
-    slice-aggregate-put-word-2
-    sub-put-word-2
-    mul-put-word
-    put-word-requires-2
-    returns)
+    (tie.spec (λ c. search needs) (λ c κs. search needs) (λ c. search needs) (λ c κs. search needs) (λ c. search needs) (λ c. search needs) put-word-requires (λ c. search needs) (λ c. search needs) (λ c. search needs) put-word-requires-2 returns)

@@ -1,140 +1,38 @@
-use lib.ListN.{length-set}
-use native.Mathlib.Numerals.{towards-suc}
+-- `sha384::padding::put_word` meets its contract. At each turn, writing what is left of the word's bytes gives the buffer
+-- that the contract names; a turn writes the last of these bytes, and with none left the buffer is it. Assumes nothing.
+use mathlib.Core.Path.{_≡_, sym, ap, _∙_}
+use Prim.Native.Nat.{ℕ, _≤_}
 use native.Mathlib.Omega.{arith}
-use Rattle.sha384.specs.Words.{bytes}
+use lib.ListN.{length}
+use lib.Seq.{sets}
 use borrow.Author.Needs.{needs}
+use Rattle.sha384.specs.Words.{bytes}
+use Rattle.sha384.proofs.Pad.{bytes-last}
 use Rattle.sha384.proofs.padding.put_word.Statement.{statement}
 use Rattle.sha384.proofs.padding.put_word.Tie as tie
-use Rattle.sha384.proofs.padding.put_word.Reads as reads
-use Rattle.sha384.proofs.padding.put_word.Lts as lts
 
--- src/padding.rt:25:18
-cast-buffer : tie.Need-cast-buffer
-cast-buffer c = search needs
+abbrev Inv-loop : tie.InvT-loop
+Inv-loop buffer₀ at word left₀ rest₀ buffer left rest =
+    (left ≤ 8)
+    × (length buffer ≡ length buffer₀)
+    × (sets buffer at (bytes left rest) ≡ sets buffer₀ at (bytes 8 word))
 
--- src/padding.rt:25:5
-slice-write-buffer : tie.Need-slice-write-buffer
-slice-write-buffer c = search needs
+abbrev μ-loop : tie.MeasureT-loop
+μ-loop buffer₀ at word left₀ rest₀ buffer left rest = left
 
--- src/padding.rt:26:22
-cast-buffer-2 : tie.Need-cast-buffer-2
-cast-buffer-2 c = search needs
+loop-again : tie.Need-loop-again Inv-loop μ-loop
+loop-again c =
+    let b = c .before in
+    (omega arith, search needs, bytes-last (b .loop .buffer) (b .before .args .at) (b .loop .left) (b .loop .rest) (omega arith) ∙ b .loop .inv .2)
 
--- src/padding.rt:26:12
-add-buffer : tie.Need-add-buffer
-add-buffer c = search needs
-
--- src/padding.rt:26:5
-slice-write-buffer-2 : tie.Need-slice-write-buffer-2
-slice-write-buffer-2 c = simp length-set (omega arith)
-
--- src/padding.rt:27:22
-cast-buffer-3 : tie.Need-cast-buffer-3
-cast-buffer-3 c = search needs
-
--- src/padding.rt:27:12
-add-buffer-2 : tie.Need-add-buffer-2
-add-buffer-2 c = search needs
-
--- src/padding.rt:27:5
-slice-write-buffer-3 : tie.Need-slice-write-buffer-3
-slice-write-buffer-3 c = simp length-set (omega arith)
-
--- src/padding.rt:28:22
-cast-buffer-4 : tie.Need-cast-buffer-4
-cast-buffer-4 c = search needs
-
--- src/padding.rt:28:12
-add-buffer-3 : tie.Need-add-buffer-3
-add-buffer-3 c = search needs
-
--- src/padding.rt:28:5
-slice-write-buffer-4 : tie.Need-slice-write-buffer-4
-slice-write-buffer-4 c = simp length-set (omega arith)
-
--- src/padding.rt:29:22
-cast-buffer-5 : tie.Need-cast-buffer-5
-cast-buffer-5 c = search needs
-
--- src/padding.rt:29:12
-add-buffer-4 : tie.Need-add-buffer-4
-add-buffer-4 c = search needs
-
--- src/padding.rt:29:5
-slice-write-buffer-5 : tie.Need-slice-write-buffer-5
-slice-write-buffer-5 c = simp length-set (omega arith)
-
--- src/padding.rt:30:22
-cast-buffer-6 : tie.Need-cast-buffer-6
-cast-buffer-6 c = search needs
-
--- src/padding.rt:30:12
-add-buffer-5 : tie.Need-add-buffer-5
-add-buffer-5 c = search needs
-
--- src/padding.rt:30:5
-slice-write-buffer-6 : tie.Need-slice-write-buffer-6
-slice-write-buffer-6 c = simp length-set (omega arith)
-
--- src/padding.rt:31:22
-cast-buffer-7 : tie.Need-cast-buffer-7
-cast-buffer-7 c = search needs
-
--- src/padding.rt:31:12
-add-buffer-6 : tie.Need-add-buffer-6
-add-buffer-6 c = search needs
-
--- src/padding.rt:31:5
-slice-write-buffer-7 : tie.Need-slice-write-buffer-7
-slice-write-buffer-7 c = simp length-set (omega arith)
-
--- src/padding.rt:32:22
-cast-buffer-8 : tie.Need-cast-buffer-8
-cast-buffer-8 c = search needs
-
--- src/padding.rt:32:12
-add-buffer-7 : tie.Need-add-buffer-7
-add-buffer-7 c = search needs
-
--- src/padding.rt:32:5
-slice-write-buffer-8 : tie.Need-slice-write-buffer-8
-slice-write-buffer-8 c = simp length-set (omega arith)
-
--- src/padding.rt:14:1
-same-length : tie.Need-same-length
-same-length c = simp length-set
-
--- src/padding.rt:14:1
-returns : tie.Need-returns
+returns : tie.Need-returns Inv-loop μ-loop
 unfolding bytes
-returns c = simp towards-suc
+returns c =
+    let b = c .before in
+    let left : b .loop .left ≡ 0 = omega arith in
+    ap (λ (n : ℕ). sets (b .loop .buffer) (b .before .args .at) (bytes n (b .loop .rest))) (sym left) ∙ b .loop .inv .2
 
 pub put-word-spec : {M : Type 1} → statement M
 put-word-spec =
     tie.close
-    (tie.spec
-    cast-buffer
-    slice-write-buffer
-    cast-buffer-2
-    add-buffer
-    slice-write-buffer-2
-    cast-buffer-3
-    add-buffer-2
-    slice-write-buffer-3
-    cast-buffer-4
-    add-buffer-3
-    slice-write-buffer-4
-    cast-buffer-5
-    add-buffer-4
-    slice-write-buffer-5
-    cast-buffer-6
-    add-buffer-5
-    slice-write-buffer-6
-    cast-buffer-7
-    add-buffer-6
-    slice-write-buffer-7
-    cast-buffer-8
-    add-buffer-7
-    slice-write-buffer-8
-    same-length
-    returns)
+    (tie.spec Inv-loop μ-loop (λ c. search needs) (λ c. search needs) (λ c. search needs) (λ c. search needs) (λ c. search needs) (λ c. search needs) loop-again (λ c. search needs) returns)

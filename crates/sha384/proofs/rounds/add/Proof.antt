@@ -1,58 +1,24 @@
-use Rattle.sha384.specs.Hash.{added}
+-- `sha384::rounds::add` meets its contract, word by word. Assumes nothing.
 use borrow.Author.Needs.{needs}
+use Rattle.sha384.specs.Hash.{added}
+use Rattle.sha384.proofs.Hash.{state-is}
 use Rattle.sha384.proofs.rounds.add.Statement.{statement}
 use Rattle.sha384.proofs.rounds.add.Tie as tie
-use Rattle.sha384.proofs.rounds.add.Reads as reads
-use Rattle.sha384.proofs.rounds.add.Lts as lts
-use Rattle.std.proofs.num.wrapping_add_u64.Reads as wrapping-add-u64-reads
 
--- src/rounds.rt:63:12
-wrapping-add-u64-requires : tie.Need-wrapping-add-u64-requires
-wrapping-add-u64-requires c κs = search needs
-
--- src/rounds.rt:64:12
-wrapping-add-u64-requires-2 : tie.Need-wrapping-add-u64-requires-2
-wrapping-add-u64-requires-2 c κs = search needs
-
--- src/rounds.rt:65:12
-wrapping-add-u64-requires-3 : tie.Need-wrapping-add-u64-requires-3
-wrapping-add-u64-requires-3 c κs = search needs
-
--- src/rounds.rt:66:12
-wrapping-add-u64-requires-4 : tie.Need-wrapping-add-u64-requires-4
-wrapping-add-u64-requires-4 c κs = search needs
-
--- src/rounds.rt:67:12
-wrapping-add-u64-requires-5 : tie.Need-wrapping-add-u64-requires-5
-wrapping-add-u64-requires-5 c κs = search needs
-
--- src/rounds.rt:68:12
-wrapping-add-u64-requires-6 : tie.Need-wrapping-add-u64-requires-6
-wrapping-add-u64-requires-6 c κs = search needs
-
--- src/rounds.rt:69:12
-wrapping-add-u64-requires-7 : tie.Need-wrapping-add-u64-requires-7
-wrapping-add-u64-requires-7 c κs = search needs
-
--- src/rounds.rt:70:12
-wrapping-add-u64-requires-8 : tie.Need-wrapping-add-u64-requires-8
-wrapping-add-u64-requires-8 c κs = search needs
-
--- src/rounds.rt:59:1
 returns : tie.Need-returns
 unfolding added
-returns c = cc
+returns c =
+    let w7 = c .before in
+    let w6 = w7 .before in
+    let w5 = w6 .before in
+    let w4 = w5 .before in
+    let w3 = w4 .before in
+    let w2 = w3 .before in
+    let w1 = w2 .before in
+    state-is (w1 .wrapping-add-u64 .ensures) (w2 .wrapping-add-u642 .ensures) (w3 .wrapping-add-u643 .ensures) (w4 .wrapping-add-u644 .ensures)
+    (w5 .wrapping-add-u645 .ensures) (w6 .wrapping-add-u646 .ensures) (w7 .wrapping-add-u647 .ensures) (c .wrapping-add-u648 .ensures)
 
 pub add-spec : {M : Type 1} → statement M
 add-spec =
     tie.close
-    (tie.spec
-    wrapping-add-u64-requires
-    wrapping-add-u64-requires-2
-    wrapping-add-u64-requires-3
-    wrapping-add-u64-requires-4
-    wrapping-add-u64-requires-5
-    wrapping-add-u64-requires-6
-    wrapping-add-u64-requires-7
-    wrapping-add-u64-requires-8
-    returns)
+    (tie.spec (λ c κs. search needs) (λ c κs. search needs) (λ c κs. search needs) (λ c κs. search needs) (λ c κs. search needs) (λ c κs. search needs) (λ c κs. search needs) (λ c κs. search needs) returns)

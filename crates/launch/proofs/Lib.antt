@@ -1,0 +1,9 @@
+pub mod Cases
+pub mod Worked
+pub mod Verdict
+pub mod Refused
+pub mod Keeps
+pub mod Stage
+pub mod Laid
+pub mod Order
+pub mod Accepted

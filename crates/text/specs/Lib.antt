@@ -1,0 +1,2 @@
+-- The text of an answer. Assumes nothing.
+pub mod Text
