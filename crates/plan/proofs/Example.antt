@@ -48,6 +48,10 @@ pub past-the-end : view (1 ∷ 2 ∷ []) [] 1 2 0 ≡ []
 unfolding view part sliceOf
 past-the-end = refl
 
+pub too-long : view (replicate 5000 1) [] 0 4097 0 ≡ []
+unfolding view part sliceOf
+too-long = refl
+
 pub third-type : view (1 ∷ 2 ∷ []) (3 ∷ []) 0 1 3 ≡ []
 unfolding view part sliceOf
 third-type = refl
