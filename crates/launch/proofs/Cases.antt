@@ -1,5 +1,5 @@
 -- The starred cases, computed. Assumes nothing.
-use mathlib.Core.Path.{_≡_, refl}
+use mathlib.Core.Path.{refl}
 use Rattle.wire.specs.Number.{le, numberAt}
 use Rattle.verdict.specs.Refusal.{number, place, refusalOf}
 use Rattle.verdict.specs.Turns.{inTurn}

@@ -1,8 +1,7 @@
 -- Acceptance, taken apart once: what follows from it, by name. Assumes nothing.
-use mathlib.Core.Path.{_≡_, refl, sym, ap, _∙_}
-use mathlib.Core.Bool.{Bool, true, false}
-use mathlib.Core.List.{List, [], _∷_, _++_}
-use Prim.Native.Nat.{ℕ, _+_, _≤_, _<_}
+use mathlib.Core.Path.{_≡_, _∙_}
+use mathlib.Core.List.{List, _++_}
+use Prim.Native.Nat.{ℕ, _+_, _<_}
 use Rattle.verdict.specs.declared.Refusal.the-variants.{Nothing}
 use Rattle.verdict.specs.Turns.{inTurn}
 use Rattle.verdict.specs.Rules.{Rule, judge}

@@ -1,7 +1,6 @@
 -- Rules 9 to 19 and the layout: the code's stages, what each way out answers, and that what stands from the descriptor on serves as the
 -- image's own fields. Assumes nothing.
 use mathlib.Core.Path.{_≡_, refl, sym, ap, ap₂, _∙_}
-use mathlib.Core.Bool.{Bool, true, false}
 use mathlib.Core.List.{List, [], _∷_, _++_}
 use Prim.Native.Nat.{ℕ, _+_, _-_, _*_, _≤_, _<_}
 use native.Mathlib.Omega.{arith}
@@ -18,12 +17,11 @@ use Rattle.verdict.proofs.Rules.{nothing-number, judge-then, judge-stops}
 use Rattle.tdvf.specs.declared.Section.{Section}
 use Rattle.tdvf.specs.declared.Totals.{Totals}
 use Rattle.tdvf.specs.Image.{Fields, sectionCount, sectionAt, sections}
-use Rattle.tdvf.specs.Section.{bootBroken, handoffBroken, pagesBroken, totalsOf, imageRules, sharedBroken}
+use Rattle.tdvf.specs.Section.{bootBroken, handoffBroken, pagesBroken, totalsOf}
 use Rattle.memory.specs.Map.{recordAt, recordCount, records}
 use Rattle.handoff.specs.Pieces.{pieces}
 use Rattle.handoff.specs.List.{listLength}
 use Rattle.handoff.proofs.Count.{pieces-few}
-use Rattle.launch.specs.declared.Checked.{Checked}
 use Rattle.launch.specs.declared.Checked.the-variants.{Refused, Accepted}
 use Rattle.launch.specs.declared.Layout.{Layout}
 use Rattle.launch.specs.Host.{Host, hostWith}
@@ -87,7 +85,7 @@ module _ (m : List ℕ) (w p q : ℕ) (f : Fields) (d : List ℕ) (count : secti
   earlier-same : (k : ℕ) → k ≤ sectionCount d → upTo (sectionAt d) k ≡ upTo (sectionAt (f .descriptor)) k
   earlier-same k l = turn-same _ _ k (λ i h. ap (λ (s : Section). s ∷ []) (same i (omega arith)))
 
-  sections-same : sections near ≡ sections f
+  pub sections-same : sections near ≡ sections f
   unfolding sections
   sections-same = earlier-same (sectionCount d) (omega arith) ∙ ap (upTo (sectionAt (f .descriptor))) count
 

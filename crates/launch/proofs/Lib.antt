@@ -2,6 +2,8 @@ pub mod Cases
 pub mod Worked
 pub mod Verdict
 pub mod Refused
+pub mod Filled
+pub mod Whole
 pub mod Keeps
 pub mod Stage
 pub mod Laid

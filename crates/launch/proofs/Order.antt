@@ -1,38 +1,37 @@
 -- The checks in the page's order: what the first stages show, and what the answer is where one of them is broken or all are kept.
 -- Assumes nothing.
 use mathlib.Core.Path.{_≡_, refl, sym, ap, ap₂, _∙_}
-use mathlib.Core.Bool.{Bool, true, false, not}
-use mathlib.Core.List.{List, [], _∷_, _++_}
-use Prim.Native.Nat.{ℕ, _+_, _-_, _*_, _^_, _≤_, _<_}
+use mathlib.Core.Bool.{true}
+use mathlib.Core.List.{List, []}
+use Prim.Native.Nat.{ℕ, _+_, _-_, _*_, _≤_, _<_}
 use native.Mathlib.Omega.{arith}
-use lib.Dec.{eqb}
 use lib.ListN.{length, take, drop, length-drop}
 use lib.Seq.{take-all}
 use borrow.Author.Tests.{ltb-false, not-false}
 use Rattle.verdict.specs.declared.Refusal.{Refusal}
 use Rattle.verdict.specs.declared.Refusal.the-variants.{Nothing}
-use Rattle.verdict.specs.Rules.{Rule, judge}
+use Rattle.verdict.specs.Rules.{judge}
+use Rattle.verdict.specs.Turns.{upTo}
 use Rattle.memory.specs.declared.Fault.{Fault}
 use Rattle.memory.specs.declared.Fault.the-variants as fault
-use Rattle.memory.specs.Map.{widthAllowed, recordAt, recordCount, end, top, endBefore, mapTried, firstFault, faultRefusal, mapRules}
+use Rattle.memory.specs.Map.{widthAllowed, recordAt, end, mapTried, firstFault, faultRefusal, mapRules}
 use Rattle.memory.proofs.First.{map-judged}
 use Rattle.memory.proofs.Broken.{top-low}
-use Rattle.memory.proofs.Kept.{KeptMap, KeptRecord, kept-map}
+use Rattle.memory.proofs.Kept.{kept-map}
 use Rattle.verdict.proofs.Rules.{refusal-is}
 use Rattle.tdvf.specs.declared.Located.{Located}
 use Rattle.tdvf.specs.declared.Located.the-variants.{At, Refused}
-use Rattle.tdvf.specs.Image.{Fields, fieldsOf, offsetWord, sectionCount, sectionAt, lengthBroken, descriptorRules, located}
+use Rattle.tdvf.specs.Image.{Fields, fieldsOf, offsetWord, sectionCount, sectionAt, sections, lengthBroken, descriptorRules, located}
 use Rattle.tdvf.proofs.Kept.{kept-front}
 use Rattle.tdvf.proofs.Tried.{or-neither}
 use Rattle.tdvf.proofs.Descriptor.{fields-length, fields-offset, fields-count, fields-section, Found, located-at, Missed, located-missed}
 use Rattle.handoff.specs.Pieces.{EndsFit}
-use Rattle.launch.specs.declared.Checked.{Checked}
 use Rattle.launch.specs.declared.Checked.the-variants as checks
 use Rattle.launch.specs.Host.{Host, hostWith, buffersBroken, widthBroken}
 use Rattle.launch.specs.Rules.{firstRules, verdict, checked, layoutOf}
 use Rattle.launch.specs.Stages.{fieldsWith, locatedRefusal, laidOut}
 use Rattle.launch.proofs.Keeps.{ends-rows}
-use Rattle.launch.proofs.Laid.{answers-refusal, laid-same}
+use Rattle.launch.proofs.Laid.{answers-refusal, sections-same, laid-same}
 
 -- ---- rules 1 to 3
 
@@ -42,18 +41,23 @@ unfolding firstRules buffersBroken widthBroken lengthBroken
 first-any m w p q f = refl
 
 pub record FirstKept (h : Host) (f : Fields) : Type 0 where
+  pub plan : 65536 ≤ h .plan
+  pub handoff : 8192 ≤ h .handoff
   pub width : widthAllowed (h .width) ≡ true
   pub low : 32 ≤ f .length
   pub high : f .length ≤ 16777216
 
 pub first-kept : (h : Host) (f : Fields) → judge (firstRules h f) ≡ Nothing → FirstKept h f
-unfolding firstRules widthBroken lengthBroken
+unfolding firstRules buffersBroken widthBroken lengthBroken
 first-kept h f e =
     let a = kept-front _ _ e in
     let b = kept-front _ _ (a .rest) in
     let c = kept-front _ _ (b .rest) in
+    let s = or-neither _ _ (a .first) in
     let l = or-neither _ _ (c .first) in
     record {
+      plan = ltb-false (h .plan) 65536 (s .first);
+      handoff = ltb-false (h .handoff) 8192 (s .second);
       width = not-false (widthAllowed (h .width)) (b .first);
       low = ltb-false (f .length) 32 (l .first);
       high = ltb-false 16777216 (f .length) (l .second);
@@ -114,15 +118,28 @@ module _ (image : List ℕ) (d n : ℕ) (at : located (fieldsOf image) ≡ At d 
   pub part-count : n ≡ sectionCount part
   part-count = found .count ∙ fields-count image ∙ ap sectionCount (sym part-is)
 
+  few : sectionCount (fieldsOf image .descriptor) ≤ 32
+  few = omega (arith, found .few, found .count)
+
+  counts : sectionCount part ≡ sectionCount (fieldsOf image .descriptor)
+  counts = ap sectionCount part-is ∙ sym (fields-count image)
+
+  pub part-section : (k : ℕ) → k < n → sectionAt part k ≡ sectionAt (fieldsOf image .descriptor) k
+  part-section k l =
+      ap (λ (s : List ℕ). sectionAt s k) part-is ∙ sym (fields-section image k (omega (arith, found .count)) few)
+
+  same : (k : ℕ) → k < sectionCount part → sectionAt part k ≡ sectionAt (fieldsOf image .descriptor) k
+  same k l = part-section k (omega (arith, part-count))
+
+  pub part-sections : upTo (sectionAt part) n ≡ sections (fieldsOf image)
+  unfolding sections
+  part-sections = ap (upTo (sectionAt part)) part-count ∙ sections-same [] 0 0 0 (fieldsOf image) part counts same
+
   pub part-laid : (m : List ℕ) (w p q : ℕ)
       → laidOut (hostWith m 0 0 0) (fieldsWith (length image) d part) ≡ laidOut (hostWith m w p q) (fieldsOf image)
   part-laid m w p q =
-      let f = fieldsOf image in
-      let few : sectionCount (f .descriptor) ≤ 32 = omega (arith, found .few, found .count) in
-      let counts : sectionCount part ≡ sectionCount (f .descriptor) = ap sectionCount part-is ∙ sym (fields-count image) in
       ap₂ (λ (L o : ℕ). laidOut (hostWith m 0 0 0) (fieldsWith L o part)) (sym (fields-length image)) (found .start)
-      ∙ laid-same m w p q f part counts
-      (λ k l. ap (λ (s : List ℕ). sectionAt s k) part-is ∙ sym (fields-section image k (omega (arith, counts)) few))
+      ∙ laid-same m w p q (fieldsOf image) part counts same
 
   pub part-kept : judge (descriptorRules (fieldsOf image)) ≡ Nothing
   part-kept = found .kept

@@ -1,9 +1,9 @@
 -- A refused launch: "pages, HOB length and blocks 0, a measurement of 48 zero bytes, and both buffers zero over their full lengths".
 -- And an accepted one: what it writes, and zeros behind it.
 -- Assumes nothing.
-use mathlib.Core.Path.{_≡_, refl, ap, _∙_}
-use mathlib.Core.Bool.{Bool, true, false}
-use mathlib.Core.List.{List, [], _++_}
+use mathlib.Core.Path.{_≡_, refl, ap}
+use mathlib.Core.Bool.{true, false}
+use mathlib.Core.List.{List, _++_}
 use Prim.Native.Nat.{ℕ, _-_}
 use native.Mathlib.Nat.{sub-zero}
 use lib.ListN.{length, replicate}

@@ -1,8 +1,8 @@
 -- The stages of the checks, held against the launch's own rules. Assumes nothing.
-use mathlib.Core.Path.{_≡_, refl, sym, ap, ap₂, _∙_}
+use mathlib.Core.Path.{_≡_, refl, sym, ap, _∙_}
 use mathlib.Core.Bool.{Bool, true, false, not, _||_}
 use mathlib.Core.List.{List, [], _∷_, _++_}
-use Prim.Native.Nat.{ℕ, _+_, _-_, _≤_, _<_}
+use Prim.Native.Nat.{ℕ, _+_, _-_, _<_}
 use native.Mathlib.Omega.{arith}
 use lib.Dec.{leb}
 use Rattle.verdict.specs.declared.Place.{Place}
@@ -11,7 +11,7 @@ use Rattle.verdict.specs.declared.Refusal.{Refusal}
 use Rattle.verdict.specs.declared.Refusal.the-variants as is
 use Rattle.verdict.specs.Refusal.{refusalOf}
 use Rattle.verdict.specs.Turns.{inTurn, upTo}
-use Rattle.verdict.specs.Rules.{Rule, judge}
+use Rattle.verdict.specs.Rules.{judge}
 use Rattle.verdict.proofs.Turns.{turn-add, upTo-none, upTo-more}
 use Rattle.verdict.proofs.Rules.{judge-none, judge-kept, judge-broken, judge-then, judge-stops, turns-stop}
 use Rattle.memory.specs.declared.Cause.{Cause}

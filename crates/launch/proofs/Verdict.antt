@@ -1,15 +1,15 @@
 -- The row of rules of a launch: accepted exactly if none is broken, and a refusal is the first that is. Assumes nothing.
-use mathlib.Core.Path.{_≡_, refl, sym, ap, _∙_}
-use mathlib.Core.Bool.{Bool, true, false}
-use mathlib.Core.List.{List, [], _∷_, _++_}
+use mathlib.Core.Path.{_≡_}
+use mathlib.Core.Bool.{true}
+use mathlib.Core.List.{List}
 use mathlib.Core.Logic.{_↔_}
 use Prim.Native.Nat.{ℕ, _≤_}
-use lib.Dec.{eqb, lit≤}
+use lib.Dec.{lit≤}
 use borrow.Author.Tests.{eqb-true, eq-eqb}
 use Rattle.verdict.specs.declared.Refusal.the-variants.{Nothing}
 use Rattle.verdict.specs.Refusal.{number}
 use Rattle.verdict.specs.Turns.{inTurn}
-use Rattle.verdict.specs.Rules.{Rule, judge, Kept, Numbered}
+use Rattle.verdict.specs.Rules.{judge, Kept, Numbered}
 use Rattle.verdict.proofs.Each.{each-none}
 use Rattle.verdict.proofs.Rules.{nothing-number}
 use Rattle.verdict.proofs.Verdict.{accepted-exactly, refused-first, named, First, Named, numbered-append, numbered-turns, numbered-cons}

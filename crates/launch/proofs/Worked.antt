@@ -1,8 +1,6 @@
 -- Page 01, "A launch in full": the worked launch whole, computed. Assumes nothing.
 use mathlib.Core.Path.{_≡_, refl}
-use mathlib.Core.List.{List, [], _∷_, _++_}
-use Prim.Native.Nat.{ℕ}
-use lib.ListN as list
+use mathlib.Core.List.{List, [], _∷_}
 use Rattle.wire.specs.Number.{le, numberAt}
 use Rattle.verdict.specs.Turns.{inTurn}
 use Rattle.memory.specs.Map.{recordAt, records}
@@ -10,8 +8,7 @@ use Rattle.tdvf.specs.Image.{offsetWord, sectionCount, descriptorAt, fieldsOf, 
 use Rattle.tdvf.specs.Section.{handoffSection}
 use Rattle.plan.specs.declared.Page.{Page}
 use Rattle.plan.specs.Plan.{sourceOf, dataLength, dataOffset, pageOf, pagesOf, pages, pageBytes, planBytes}
-use Rattle.handoff.specs.declared.Piece.{Piece}
-use Rattle.handoff.specs.Pieces.{sectionPiece, runPiece, lowerOf, nextOf, pieceAt, cut, piecesOf, pieces}
+use Rattle.handoff.specs.Pieces.{lowerOf, nextOf, pieceAt, cut, piecesOf, pieces}
 use Rattle.handoff.specs.List.{firstBlock, pieceBlock, lastBlock, pieceBlocks, listLength, listBytes}
 use Rattle.measure.specs.Stream.{measuredPages, blockCount}
 use Rattle.launch.specs.Rules.{handoffLength}

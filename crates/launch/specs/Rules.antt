@@ -5,7 +5,6 @@ use mathlib.Core.Bool.{Bool, not}
 use mathlib.Core.List.{List, [], _∷_, _++_}
 use Prim.Native.Nat.{ℕ}
 use lib.Dec.{ltb, eqb}
-use Rattle.verdict.specs.declared.Place.{Place}
 use Rattle.verdict.specs.declared.Place.the-variants.{Nowhere, Section}
 use Rattle.verdict.specs.declared.Refusal.{Refusal}
 use Rattle.verdict.specs.Refusal.{number}

@@ -3,19 +3,26 @@ ghost use mathlib.Core.Path.{_≡_};
 ghost use mathlib.Core.List.{[]};
 ghost use Prim.Native.Nat.{_+_, _*_, _≤_};
 ghost use lib.ListN as list;
+ghost use lib.Seq.{sets};
 ghost use Rattle.verdict.specs.Turns.{inTurn};
 ghost use Rattle.verdict.specs.Rules.{judge};
 ghost use Rattle.memory.specs.Map.{widthAllowed, faultRefusal};
 ghost use Rattle.tdvf.specs.Image.{fieldsOf, sectionCount};
+ghost use Rattle.plan.specs.Plan.{planBytes};
 ghost use Rattle.handoff.specs.Pieces.{EndsFit};
 ghost use Rattle.launch.specs.Host.{hostWith};
 ghost use Rattle.launch.specs.Rules.{firstRules, sectionRules, checked};
-ghost use Rattle.launch.specs.Stages.{fieldsWith, locatedRefusal, lastOf, laidOut};
+ghost use Rattle.launch.specs.Launch.{pageList, handoffList, acceptedAnswer, refusedAnswer, answer, planAfter, handoffAfter};
+ghost use Rattle.launch.specs.Stages.{fieldsWith, locatedRefusal, lastOf, laidOut, checkedRefusal, Sound};
 use handoff::count_pieces;
 use handoff::list_length;
+use handoff::write_list;
+use measure::count_blocks;
+use measure::measure;
 use memory::Fault;
 use memory::Lies;
 use memory::lies_in;
+use plan::write_plan;
 use tdvf::Located;
 use tdvf::Totals;
 use tdvf::firmware_allowed;
@@ -26,6 +33,7 @@ use tdvf::section_at;
 use tdvf::totals_of;
 use verdict::Place;
 use verdict::Refusal;
+use wire::clear;
 
 // What a launch answers. A refused one has counts of 0 and a measurement of zeros.
 pub struct Answer {
@@ -206,4 +214,72 @@ pub fn check(image: &[u8], map: &[u8], width: u32, plan: usize, handoff: usize) 
         return Checked::Refused(located_refusal(located));
     };
     lay_out(&image[offset..], offset, count, image.len(), map)
+}
+
+// The refusal that the checks answered; nothing of an accepted launch.
+fn checked_refusal(checked: Checked) -> Refusal
+    ensures { λ r. ⌜ r ≡ checkedRefusal checked ⌝ }
+{
+    match checked {
+        Checked::Refused(refusal) => refusal,
+        Checked::Accepted(_) => Refusal::Nothing,
+    }
+}
+
+// The answer of a refused launch.
+fn refused_answer(refusal: Refusal) -> Answer
+    ensures { λ r. ⌜ r ≡ refusedAnswer refusal ⌝ }
+{
+    Answer {
+        refusal,
+        pages: 0,
+        handoff: 0,
+        blocks: 0,
+        measurement: [0; 48],
+    }
+}
+
+// Fills both buffers for a launch that breaks no rule, and measures what the plan loads.
+fn fill(image: &[u8], map: &[u8], layout: Layout, plan: &mut [u8], handoff: &mut [u8]) -> Answer
+    requires { ⌜ Sound (now image) (now map) layout (list.length (now plan)) (list.length (now handoff)) ⌝ }
+    ensures { λ r. ⌜ r ≡ acceptedAnswer (hostWith (now (map .entry)) 0 0 0) (now (image .entry)) ⌝ }
+    ensures { λ _. ⌜ now (plan .exit) ≡ sets (now (plan .entry)) 0 (planBytes (pageList (hostWith (now (map .entry)) 0 0 0) (fieldsOf (now (image .entry))))) ⌝ }
+    ensures { λ _. ⌜ now (handoff .exit) ≡ sets (now (handoff .entry)) 0 (handoffList (hostWith (now (map .entry)) 0 0 0) (fieldsOf (now (image .entry)))) ⌝ }
+{
+    let offset = layout.offset;
+    let count = layout.count;
+    let descriptor = &image[offset..];
+    write_list(
+        handoff,
+        descriptor,
+        count,
+        map,
+        layout.address,
+        layout.handoff,
+    );
+    write_plan(plan, descriptor, count, layout.handoff);
+    let blocks = count_blocks(plan, layout.pages as usize);
+    let measurement = measure(image, plan, blocks);
+    Answer {
+        refusal: Refusal::Nothing,
+        pages: layout.pages,
+        handoff: layout.handoff,
+        blocks,
+        measurement,
+    }
+}
+
+// The launch. Both buffers are cleared first, on every path, so that no older plan can survive in them.
+pub fn launch(image: &[u8], map: &[u8], width: u32, plan: &mut [u8], handoff: &mut [u8]) -> Answer
+    ensures { λ r. ⌜ r ≡ answer (hostWith (now (map .entry)) width (list.length (now (plan .entry))) (list.length (now (handoff .entry)))) (now (image .entry)) ⌝ }
+    ensures { λ _. ⌜ now (plan .exit) ≡ planAfter (hostWith (now (map .entry)) width (list.length (now (plan .entry))) (list.length (now (handoff .entry)))) (now (image .entry)) ⌝ }
+    ensures { λ _. ⌜ now (handoff .exit) ≡ handoffAfter (hostWith (now (map .entry)) width (list.length (now (plan .entry))) (list.length (now (handoff .entry)))) (now (image .entry)) ⌝ }
+{
+    clear(plan);
+    clear(handoff);
+    let checked = check(image, map, width, plan.len(), handoff.len());
+    let Checked::Accepted(layout) = checked else {
+        return refused_answer(checked_refusal(checked));
+    };
+    fill(image, map, layout, plan, handoff)
 }

@@ -111,6 +111,17 @@ stream-length image handoff ps =
 pub stream-blocks : (image handoff : List ℕ) (ps : List Page) → length (stream image handoff ps) / 128 ≡ blockCount ps
 stream-blocks image handoff ps = omega (arith, stream-length image handoff ps)
 
+-- a page gives 49 blocks at most
+pub blocks-most : (ps : List Page) → blockCount ps ≤ 49 * length ps
+unfolding blockCount measuredPages
+blocks-most [] = omega arith
+blocks-most (p ∷ ps) = let below = blocks-most ps in byMark (isMeasured p) below
+  where
+    byMark : (m : Bool) → length ps + 48 * measuredPages ps ≤ 49 * length ps
+        → suc (length ps) + 48 * (pick m 1 0 + measuredPages ps) ≤ 49 * suc (length ps)
+    byMark true h = omega arith
+    byMark false h = omega arith
+
 -- the stream, 128 bytes at a time, is its blocks
 pub stream-block : (image handoff : List ℕ) (ps : List Page) (n : ℕ) → n < blockCount ps
     → take 128 (drop (128 * n) (stream image handoff ps)) ≡ getD (blocksOf image handoff ps) n []

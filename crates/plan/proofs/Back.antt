@@ -89,14 +89,18 @@ in-list [] i d h = absurd (omega arith)
 in-list (p ∷ ps) zero d h = List·Memᴰ·head refl
 in-list (p ∷ ps) (suc i) d h = List·Memᴰ·tail (in-list ps i d (omega arith))
 
+-- what holds of each page of each section holds of each page of the plan
+pub each-page : (P : Page → Type 0) (handoff : ℕ) (ss : List Section) → Each (λ s. (k : ℕ) → k < pageCount s → P (pageOf handoff s k)) ss
+    → Each P (pages handoff ss)
+unfolding pages pagesOf
+each-page P handoff [] each = each-none P
+each-page P handoff (s ∷ ss) each =
+    let both = each-cons _ s ss .0 each in
+    each-append P (pagesOf handoff s) (pages handoff ss) .1 (each-upTo P (pageOf handoff s) (pageCount s) .1 (both .0), each-page P handoff ss (both .1))
+
 module _ (handoff : ℕ) (list : handoff ≤ 2 ^ 32) where
-  pages-sized : (ss : List Section) → Each Fits ss → Each Sized (pages handoff ss)
-  unfolding pages pagesOf
-  pages-sized [] fits = each-none Sized
-  pages-sized (s ∷ ss) fits =
-      let both = each-cons Fits s ss .0 fits in
-      each-append Sized (pagesOf handoff s) (pages handoff ss) .1
-      (each-upTo Sized (pageOf handoff s) (pageCount s) .1 (λ k h. page-sized handoff s k (both .0) list h), pages-sized ss (both .1))
+  pub pages-sized : (ss : List Section) → Each Fits ss → Each Sized (pages handoff ss)
+  pages-sized ss fits = each-page Sized handoff ss (λ s m k h. page-sized handoff s k (fits s m) list h)
 
   -- so a written plan is read back page by page
   pub plan-back : (f : ℕ → Section) (n : ℕ) (rest : List ℕ) (i : ℕ) (d : Page) → ((k : ℕ) → k < n → Fits (f k)) → i < pagesInAll (upTo f n)

@@ -1,8 +1,8 @@
 -- The totals of sections, with one section more: how many are so, the pages in all, and the TD HOB section. Assumes nothing.
-use mathlib.Core.Path.{_≡_, refl, sym, ap, _∙_}
+use mathlib.Core.Path.{_≡_, refl, sym, ap, subst, _∙_}
 use mathlib.Core.Bool.{Bool, true, false}
 use mathlib.Core.Logic.{_⊎_, inl, inr}
-use mathlib.Core.List.{List, [], _∷_, _++_}
+use mathlib.Core.List.{List, [], _∷_, _++_, List·Memᴰ, List·Memᴰ·head, List·Memᴰ·tail}
 use Prim.Native.Nat.{ℕ, zero, suc, _+_, _*_, _/_, _^_, _≤_}
 use native.Mathlib.Omega.{arith}
 use native.Mathlib.Numerals.{add-one}
@@ -108,6 +108,17 @@ handoff-more-stays (x ∷ xs) s n = step (λ (m : howMany isHandoff xs ≡ 0 →
     step below (inl h) = handoff-is x (xs ++ (s ∷ [])) h ∙ sym (handoff-is x xs h)
     step below (inr h) =
         handoff-not x (xs ++ (s ∷ [])) h ∙ below (λ m. n (many-cons-not isHandoff x xs h ∙ m)) ∙ sym (handoff-not x xs h)
+
+-- where there is one, it is among the sections
+pub handoff-among : (ss : List Section) → (howMany isHandoff ss ≡ 0 → ⊥) → List·Memᴰ (handoffSection ss) ss
+handoff-among [] n = absurd (n (many-none isHandoff))
+handoff-among (x ∷ xs) n = step (λ (m : howMany isHandoff xs ≡ 0 → ⊥). handoff-among xs m) (either (isHandoff x))
+  where
+    step : ((howMany isHandoff xs ≡ 0 → ⊥) → List·Memᴰ (handoffSection xs) xs) → (isHandoff x ≡ true) ⊎ (isHandoff x ≡ false) → List·Memᴰ (handoffSection (x ∷ xs)) (x ∷ xs)
+    step below (inl h) = List·Memᴰ·head (handoff-is x xs h)
+    step below (inr h) =
+        subst (λ (s : Section). List·Memᴰ s (x ∷ xs)) (sym (handoff-not x xs h))
+        (List·Memᴰ·tail (below (λ m. n (many-cons-not isHandoff x xs h ∙ m))))
 
 -- ---- the totals
 
