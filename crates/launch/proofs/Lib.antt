@@ -4,6 +4,7 @@ pub mod Verdict
 pub mod Refused
 pub mod Filled
 pub mod Whole
+pub mod Unique
 pub mod Keeps
 pub mod Stage
 pub mod Laid

@@ -5,3 +5,4 @@ pub mod Shown
 pub mod Share
 pub mod Records
 pub mod Back
+pub mod Unique
