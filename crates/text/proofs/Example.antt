@@ -4,7 +4,7 @@ use mathlib.Core.List.{[], _∷_}
 use Rattle.verdict.specs.declared.Place.the-variants.{Nowhere, Section, Record}
 use Rattle.verdict.specs.declared.Refusal.the-variants as is
 use Rattle.verdict.specs.Refusal.{number, place}
-use Rattle.text.specs.Text.{within, leading, decimal, refusedLabel, sectionLabel, recordLabel, placeText, refusalText}
+use Rattle.text.specs.Text.{within, leading, decimal, hexDigit, hexadecimal, refusedLabel, sectionLabel, recordLabel, placeText, refusalText, pagesLabel, hobLabel, blocksLabel, summaryText, spaced, pageText}
 
 -- "0", "9", "10", "4096", "18446744073709551615"
 pub zero-is : decimal 0 ≡ 0x30 ∷ []
@@ -45,3 +45,44 @@ pub record-is : refusalText (is.Map (Record 63)) ≡
     0x20 ∷ 0x72 ∷ 0x65 ∷ 0x63 ∷ 0x6F ∷ 0x72 ∷ 0x64 ∷ 0x20 ∷ 0x36 ∷ 0x33 ∷ 0x0A ∷ []
 unfolding refusalText refusedLabel recordLabel placeText number place decimal leading within
 record-is = refl
+
+-- "ffffffffffffffff"
+pub most-address-is : hexadecimal 16 18446744073709551615 ≡
+    0x66 ∷ 0x66 ∷ 0x66 ∷ 0x66 ∷ 0x66 ∷ 0x66 ∷ 0x66 ∷ 0x66 ∷ 0x66 ∷ 0x66 ∷ 0x66 ∷ 0x66 ∷ 0x66 ∷ 0x66 ∷ 0x66 ∷ 0x66 ∷ []
+unfolding hexadecimal hexDigit
+most-address-is = refl
+
+-- "pages 4 hob 256 blocks 52"
+pub summary-is : summaryText 4 256 52 ≡
+    0x70 ∷ 0x61 ∷ 0x67 ∷ 0x65 ∷ 0x73 ∷ 0x20 ∷ 0x34 ∷ 0x20 ∷ 0x68 ∷ 0x6F ∷ 0x62 ∷ 0x20 ∷ 0x32 ∷ 0x35 ∷ 0x36 ∷ 0x20 ∷
+    0x62 ∷ 0x6C ∷ 0x6F ∷ 0x63 ∷ 0x6B ∷ 0x73 ∷ 0x20 ∷ 0x35 ∷ 0x32 ∷ 0x0A ∷ []
+unfolding summaryText pagesLabel hobLabel blocksLabel decimal leading within
+summary-is = refl
+
+-- "00000000fffff000 0 4096 0 1"
+pub volume-is : pageText (record { address = 0xFFFFF000; offset = 0; length = 4096; sort = 0; measured = 1 }) ≡
+    0x30 ∷ 0x30 ∷ 0x30 ∷ 0x30 ∷ 0x30 ∷ 0x30 ∷ 0x30 ∷ 0x30 ∷ 0x66 ∷ 0x66 ∷ 0x66 ∷ 0x66 ∷ 0x66 ∷ 0x30 ∷ 0x30 ∷ 0x30 ∷
+    0x20 ∷ 0x30 ∷ 0x20 ∷ 0x34 ∷ 0x30 ∷ 0x39 ∷ 0x36 ∷ 0x20 ∷ 0x30 ∷ 0x20 ∷ 0x31 ∷ 0x0A ∷ []
+unfolding pageText spaced hexadecimal hexDigit decimal leading within
+volume-is = refl
+
+-- "0000000000009000 0 256 2 0"
+pub handoff-is : pageText (record { address = 0x9000; offset = 0; length = 256; sort = 2; measured = 0 }) ≡
+    0x30 ∷ 0x30 ∷ 0x30 ∷ 0x30 ∷ 0x30 ∷ 0x30 ∷ 0x30 ∷ 0x30 ∷ 0x30 ∷ 0x30 ∷ 0x30 ∷ 0x30 ∷ 0x39 ∷ 0x30 ∷ 0x30 ∷ 0x30 ∷
+    0x20 ∷ 0x30 ∷ 0x20 ∷ 0x32 ∷ 0x35 ∷ 0x36 ∷ 0x20 ∷ 0x32 ∷ 0x20 ∷ 0x30 ∷ 0x0A ∷ []
+unfolding pageText spaced hexadecimal hexDigit decimal leading within
+handoff-is = refl
+
+-- "000000000000a000 0 0 3 0"
+pub first-temporary-is : pageText (record { address = 0xA000; offset = 0; length = 0; sort = 3; measured = 0 }) ≡
+    0x30 ∷ 0x30 ∷ 0x30 ∷ 0x30 ∷ 0x30 ∷ 0x30 ∷ 0x30 ∷ 0x30 ∷ 0x30 ∷ 0x30 ∷ 0x30 ∷ 0x30 ∷ 0x61 ∷ 0x30 ∷ 0x30 ∷ 0x30 ∷
+    0x20 ∷ 0x30 ∷ 0x20 ∷ 0x30 ∷ 0x20 ∷ 0x33 ∷ 0x20 ∷ 0x30 ∷ 0x0A ∷ []
+unfolding pageText spaced hexadecimal hexDigit decimal leading within
+first-temporary-is = refl
+
+-- "000000000000b000 0 0 3 0"
+pub second-temporary-is : pageText (record { address = 0xB000; offset = 0; length = 0; sort = 3; measured = 0 }) ≡
+    0x30 ∷ 0x30 ∷ 0x30 ∷ 0x30 ∷ 0x30 ∷ 0x30 ∷ 0x30 ∷ 0x30 ∷ 0x30 ∷ 0x30 ∷ 0x30 ∷ 0x30 ∷ 0x62 ∷ 0x30 ∷ 0x30 ∷ 0x30 ∷
+    0x20 ∷ 0x30 ∷ 0x20 ∷ 0x30 ∷ 0x20 ∷ 0x33 ∷ 0x20 ∷ 0x30 ∷ 0x0A ∷ []
+unfolding pageText spaced hexadecimal hexDigit decimal leading within
+second-temporary-is = refl

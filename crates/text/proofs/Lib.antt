@@ -1,4 +1,6 @@
--- The laws of decimal digits and of the texts, and texts computed. Assumes nothing.
+-- The laws of digits and of the texts, and texts computed. Assumes nothing.
+pub mod Digits
 pub mod Decimal
+pub mod Hexadecimal
 pub mod Texts
 pub mod Example

@@ -1,10 +1,13 @@
 -- Page 01, "A launch in full": the text of an answer, as ASCII codes. Assumes nothing.
 use mathlib.Core.List.{List, [], _∷_, _++_}
 use Prim.Native.Nat.{ℕ, zero, suc, _+_, _/_, _%_}
+use lib.Dec.{ltb}
+use Rattle.verdict.specs.Rules.{pick}
 use Rattle.verdict.specs.declared.Place.{Place}
 use Rattle.verdict.specs.declared.Place.the-variants.{Nowhere, Section, Record}
 use Rattle.verdict.specs.declared.Refusal.{Refusal}
 use Rattle.verdict.specs.Refusal.{number, place}
+use Rattle.plan.specs.declared.Page.{Page}
 
 -- ---- numbers
 
@@ -25,6 +28,15 @@ leading v = within v v
 -- v in decimal digits with no leading zero: the last digit always stands, so 0 is "0"
 unfoldable pub decimal : ℕ → List ℕ
 decimal v = leading (v / 10) ++ (lastDigit v ∷ [])
+
+-- the code of the hexadecimal digit d, below 16: 48 is "0", and 87 + 10 is "a"
+unfoldable pub hexDigit : ℕ → ℕ
+hexDigit d = pick (ltb d 10) (48 + d) (87 + d)
+
+-- the last n hexadecimal digits of v, the highest first, with zeros in front
+unfoldable pub hexadecimal : ℕ → ℕ → List ℕ
+hexadecimal zero v = []
+hexadecimal (suc n) v = hexadecimal n (v / 16) ++ (hexDigit (v % 16) ∷ [])
 
 -- ---- a refusal
 
@@ -49,3 +61,31 @@ placeText (Record k) = recordLabel ++ decimal k
 -- "A refusal prints `refused 13 section 2`", and a newline
 unfoldable pub refusalText : Refusal → List ℕ
 refusalText r = (refusedLabel ++ decimal (number r)) ++ (placeText (place r) ++ (10 ∷ []))
+
+-- ---- an accepted launch
+
+-- "pages "
+unfoldable pub pagesLabel : List ℕ
+pagesLabel = 0x70 ∷ 0x61 ∷ 0x67 ∷ 0x65 ∷ 0x73 ∷ 0x20 ∷ []
+
+-- " hob "
+unfoldable pub hobLabel : List ℕ
+hobLabel = 0x20 ∷ 0x68 ∷ 0x6F ∷ 0x62 ∷ 0x20 ∷ []
+
+-- " blocks "
+unfoldable pub blocksLabel : List ℕ
+blocksLabel = 0x20 ∷ 0x62 ∷ 0x6C ∷ 0x6F ∷ 0x63 ∷ 0x6B ∷ 0x73 ∷ 0x20 ∷ []
+
+-- "Line 1: pages, HOB bytes, blocks", as in `pages 4 hob 256 blocks 52`, and a newline
+unfoldable pub summaryText : ℕ → ℕ → ℕ → List ℕ
+summaryText pages handoff blocks =
+    (pagesLabel ++ decimal pages) ++ ((hobLabel ++ decimal handoff) ++ ((blocksLabel ++ decimal blocks) ++ (10 ∷ [])))
+
+-- a space, and v behind it
+unfoldable pub spaced : ℕ → List ℕ
+spaced v = (0x20 ∷ []) ++ decimal v
+
+-- "Then address in 16 hex digits, data offset, data length, type, measured", as in `00000000fffff000 0 4096 0 1`, and a newline
+unfoldable pub pageText : Page → List ℕ
+pageText p =
+    hexadecimal 16 (p .address) ++ (spaced (p .offset) ++ (spaced (p .length) ++ (spaced (p .sort) ++ (spaced (p .measured) ++ (10 ∷ [])))))

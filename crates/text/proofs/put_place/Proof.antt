@@ -1,5 +1,5 @@
--- `text::put_place` meets its contract. Each arm knows the variant, of which the definition says the label and the index that it writes;
--- an index below 2 ^ 64 has at most 20 digits. Assumes nothing.
+-- `text::put_place` meets its contract. Each arm knows the variant, of which the definition says the label and the index that it writes.
+-- Assumes nothing.
 use mathlib.Core.Path.{ap}
 use native.Mathlib.Omega.{arith}
 use Rattle.text.specs.Text.{sectionLabel, recordLabel, placeText}
@@ -19,7 +19,7 @@ returns-2 c =
     let b = c .before .before in
     let a = b .before .before .before .before .before .before .before .args in
     let p = b .before .before .before .before .place .given in
-    placed-is (a .buffer .now) sectionLabel (a .place) (a .at) (p .0 .0) (b .put-labelled .last .0) (b .put-labelled .result) (ap placeText (p .1)) (omega arith) (search needs) (b .put-labelled .ensures .0) (b .put-labelled .ensures .1)
+    placed-is (a .buffer .now) sectionLabel (a .place) (a .at) (p .0 .0) (b .put-labelled .last .0) (b .put-labelled .result) (ap placeText (p .1)) (omega arith) (b .put-labelled .ensures)
 
 returns-3 : tie.Need-returns-3
 unfolding placeText recordLabel
@@ -27,7 +27,7 @@ returns-3 c =
     let b = c .before .before in
     let a = b .before .before .before .before .before .before .before .args in
     let p = b .before .before .before .before .place2 .given in
-    placed-is (a .buffer .now) recordLabel (a .place) (a .at) (p .0 .0) (b .put-labelled2 .last .0) (b .put-labelled2 .result) (ap placeText (p .1)) (omega arith) (search needs) (b .put-labelled2 .ensures .0) (b .put-labelled2 .ensures .1)
+    placed-is (a .buffer .now) recordLabel (a .place) (a .at) (p .0 .0) (b .put-labelled2 .last .0) (b .put-labelled2 .result) (ap placeText (p .1)) (omega arith) (b .put-labelled2 .ensures)
 
 pub put-place-spec : {M : Type 1} → statement M
 put-place-spec =
