@@ -17,15 +17,11 @@ use Rattle.tdvf.specs.declared.Section.{Section}
 use Rattle.tdvf.specs.Section.{end, shares, sharedBroken}
 use Rattle.tdvf.proofs.Shares.{apart-exactly}
 use Rattle.handoff.specs.declared.Piece.{Piece}
+use Rattle.handoff.specs.Cover.{Chain}
 use Rattle.handoff.specs.Pieces.{sectionPiece, runPiece, pieceAt, cut, mostPieces, piecesOf}
 use Rattle.handoff.proofs.Cut.{cut-none, cut-end}
 use Rattle.handoff.proofs.Count.{of-ram}
 use Rattle.handoff.proofs.Most.{le-or-lt, from, from-most, from-falls, from-past, piece-is, piece-some, cut-step, room, room-most, room-falls, InOrder, records-in-order}
-
--- the first piece starts at `at`, each other where the one before it ends, and the last ends at `top`; none is empty
-abbrev pub Chain : ℕ → List Piece → ℕ → Type 0
-Chain at [] top = at ≡ top
-Chain at (p ∷ ps) top = (p .start ≡ at) × (0 < p .length) × Chain (at + p .length) ps top
 
 pub piece-start : (ss : List Section) (at top : ℕ) → at < top → pieceAt ss at top .start ≡ at
 piece-start ss at top l = elim (piece-is ss at top l) [ inl p ↦ rw (p .is) | inr p ↦ rw (p .is) ]

@@ -61,7 +61,7 @@ lays h f l e = step (nothing? (verdict h f))
 -- ---- the pages
 
 -- what is measured has its data in the image: other types have no attributes
-page-volume : (handoff : ℕ) (s : Section) (k : ℕ) → Attributes s → Volume (pageOf handoff s k)
+pub page-volume : (handoff : ℕ) (s : Section) (k : ℕ) → Attributes s → Volume (pageOf handoff s k)
 unfolding pageOf
 page-volume handoff s k a m = byType (s .sort) (a .other) (eqb-true (s .attributes % 2) 1 m)
   where

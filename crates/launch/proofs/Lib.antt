@@ -5,6 +5,9 @@ pub mod Refused
 pub mod Filled
 pub mod Whole
 pub mod Unique
+pub mod Demands
+pub mod Unread
+pub mod Shown
 pub mod Keeps
 pub mod Stage
 pub mod Laid

@@ -3,4 +3,5 @@ pub mod Host
 pub mod Rules
 pub mod Stages
 pub mod Launch
+pub mod Demands
 pub mod Cases

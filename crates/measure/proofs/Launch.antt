@@ -1,12 +1,11 @@
 -- The theorem for the launch: where a plan is written from pages that fit, and what is measured has its data in the image, the
 -- digest of the lent bytes is SHA-384 of the pages' stream. Assumes nothing.
 use mathlib.Core.Path.{_≡_, refl, sym, ap, ap₂, _∙_}
-use mathlib.Core.Bool.{Bool, true, false}
+use mathlib.Core.Bool.{true}
 use mathlib.Core.List.{List, [], _∷_, _++_, append-assoc, append-nil}
 use Prim.Native.Nat.{ℕ, zero, suc, _+_, _*_, _<_}
 use native.Mathlib.Omega.{arith}
 use lib.ListN.{length, getD}
-use Rattle.verdict.specs.Rules.{pick}
 use Rattle.verdict.specs.Turns.{inTurn}
 use Rattle.verdict.proofs.Turns.{turn-same}
 use Rattle.verdict.proofs.Each.{Each, each-cons}
@@ -18,7 +17,8 @@ use Rattle.plan.specs.Plan.{pageBytes, planBytes, pageAt}
 use Rattle.plan.specs.View.{content, held}
 use Rattle.plan.proofs.Shown.{view-volume}
 use Rattle.plan.proofs.Back.{Sized, page-front, page-behind}
-use Rattle.measure.specs.Stream.{headBlock, addTag, extendBlocks, isMeasured, pageBlocks, blocksOf, stream, blockCount, planBlocks, blockAt, before, folded, digestOf}
+use Rattle.measure.specs.Stream.{isMeasured, pageBlocks, blocksOf, stream, blockCount, planBlocks, blockAt, before, folded, digestOf}
+use Rattle.measure.proofs.Alike.{blocks-alike}
 use Rattle.measure.proofs.Length.{blocks-of}
 use Rattle.measure.proofs.Blocks.{plan-count, block-in}
 use Rattle.measure.proofs.Folded.{folded-same, finished-joined}
@@ -37,19 +37,12 @@ turn-front {A} f (suc n) =
 module _ (image handoff : List ℕ) where
   -- where no HOB list is read, none is missing
   page-alike : (p : Page) → Volume p → pageBlocks p (held image [] p) ≡ pageBlocks p (held image handoff p)
-  unfolding pageBlocks held
-  page-alike p v = byMark (isMeasured p) v
-    where
-      alike : p .sort < 2 → held image [] p ≡ held image handoff p
-      alike l =
-          ap content
-          (view-volume image [] (p .offset) (p .length) (p .sort) l ∙ sym (view-volume image handoff (p .offset) (p .length) (p .sort) l))
-
-      byMark : (m : Bool) → (m ≡ true → p .sort < 2)
-          → headBlock addTag (p .address) ∷ pick m (extendBlocks (p .address) (held image [] p)) []
-          ≡ headBlock addTag (p .address) ∷ pick m (extendBlocks (p .address) (held image handoff p)) []
-      byMark true h = ap (λ (r : List ℕ). headBlock addTag (p .address) ∷ extendBlocks (p .address) r) (alike (h refl))
-      byMark false h = refl
+  unfolding held
+  page-alike p v =
+      blocks-alike p p (held image [] p) (held image handoff p) refl refl
+      (λ m.
+      ap content
+      (view-volume image [] (p .offset) (p .length) (p .sort) (v m) ∙ sym (view-volume image handoff (p .offset) (p .length) (p .sort) (v m))))
 
   -- the blocks of a written plan's bytes are those of its pages
   pub plan-blocks : (ps : List Page) (rest : List ℕ) → Each Sized ps → Each Volume ps

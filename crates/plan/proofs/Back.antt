@@ -84,7 +84,7 @@ page-sized handoff s k fits list h =
       measured = omega arith;
     }
 
-in-list : (ps : List Page) (i : ℕ) (d : Page) → i < length ps → List·Memᴰ (getD ps i d) ps
+pub in-list : (ps : List Page) (i : ℕ) (d : Page) → i < length ps → List·Memᴰ (getD ps i d) ps
 in-list [] i d h = absurd (omega arith)
 in-list (p ∷ ps) zero d h = List·Memᴰ·head refl
 in-list (p ∷ ps) (suc i) d h = List·Memᴰ·tail (in-list ps i d (omega arith))

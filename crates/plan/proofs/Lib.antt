@@ -5,4 +5,6 @@ pub mod Shown
 pub mod Share
 pub mod Records
 pub mod Back
+pub mod Pages
+pub mod Alike
 pub mod Unique

@@ -1,19 +1,16 @@
 -- The page view for C: what it names is the page view's part. Assumes nothing.
 use mathlib.Core.Path.{_≡_, refl, sym, ap, _∙_}
 use mathlib.Core.Bool.{Bool, true, false, _&&_}
-use mathlib.Core.Logic.{_⊎_, inl, inr}
 use mathlib.Core.List.{List, [], _∷_}
 use Prim.Native.Nat.{ℕ, zero, suc, _+_, _≤_, _<_}
 use native.Mathlib.Omega.{arith}
 use native.Mathlib.Decide.{ℕ-discrete}
-use lib.Dec.{eqb, leb}
+use lib.Dec.{leb}
 use lib.ListN.{length, take, drop}
 use borrow.Author.Tests.{eq-eqb, ne-eqb}
 use Rattle.verdict.specs.Rules.{pick}
-use Rattle.verdict.proofs.Rules.{either}
 use Rattle.plan.specs.View.{part, view}
 use Rattle.plan.proofs.Shown.{view-volume, view-list, view-none}
-use Rattle.tdload.specs.declared.View.{View}
 use Rattle.tdload.specs.Outward.{sliceNumber, viewed, named}
 
 -- ---- by the type

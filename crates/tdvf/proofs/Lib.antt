@@ -6,3 +6,4 @@ pub mod Descriptor
 pub mod Shares
 pub mod Sums
 pub mod Example
+pub mod Alike

@@ -1,6 +1,5 @@
 -- `tdload::slice_number` meets its contract. Assumes nothing.
 use native.Mathlib.Omega.{arith}
-use borrow.Author.Needs.{needs}
 use Rattle.tdload.proofs.Viewed.{slice-volume, slice-list, slice-none}
 use Rattle.tdload.proofs.slice_number.Statement.{statement}
 use Rattle.tdload.proofs.slice_number.Tie as tie

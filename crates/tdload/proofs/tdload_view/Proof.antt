@@ -1,5 +1,5 @@
 -- `tdload::tdload_view` meets its contract: zeros for an empty part, else the record's own numbers. Assumes nothing.
-use mathlib.Core.Path.{sym, ap, _∙_}
+use mathlib.Core.Path.{sym, ap}
 use native.Mathlib.Omega.{arith}
 use lib.ListN.{length}
 use borrow.Author.Needs.{needs}
