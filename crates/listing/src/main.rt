@@ -1,40 +1,49 @@
-// Reads `image.bin` and `map.bin` in the folder that it is started in, and prints what a launch of them at width 48 answers:
-// the refusal's line, or `accepted`. An image above 65,536 bytes prints `too long` and nothing else.
+// Reads `image.bin` and `map.bin` in the folder that it is started in, and prints what a launch of them at width 48 answers: the
+// refusal's line, or the listing of page 01, "A launch in full". An image above 65,536 bytes prints `too long` and nothing else.
 //
-// `main` reads, calls and writes; the line of a refusal is made by `text::put_refusal`, whose contract says which it is.
-ghost use Rattle.io.specs.Counts.{Counts};
-use launch::Checked;
+// `main` reads, calls and writes; each line is made by a function of `text`, whose contract says which it is.
+ghost use Prim.Native.Nat.{_≤_};
+use files::print_line;
+use files::print_refusal;
+use files::read_file;
+use launch::Answer;
 use libc::STDOUT_FILENO;
+use plan::Page;
 use verdict::Refusal;
 
-// Reads a file as far as the buffer goes, and answers how many bytes it read. A file that can't be opened counts as empty.
-fn read_file(path: &[u8], buffer: &mut [u8]) -> usize
-    ensures { λ r. ⌜ Counts r (now (buffer .exit)) ⌝ }
+fn print_summary(pages: u64, handoff: u64, blocks: u64) {
+    let mut line = [0u8; 96];
+    let count = text::put_summary(&mut line, pages, handoff, blocks);
+    print_line(&line, count);
+}
+
+fn print_page(page: Page) {
+    let mut line = [0u8; 128];
+    let count = text::put_page(&mut line, page);
+    print_line(&line, count);
+}
+
+// The lines of the plan's first records. No launch plans more than 4,096 pages.
+fn print_pages(plan: &[u8], pages: u64)
+    requires { ⌜ pages ≤ 4096 ⌝ }
 {
-    let file = os::open_read(path);
-    if file < 0 {
-        return 0;
+    let mut index = 0;
+    while index < pages {
+        print_page(measure::page_at(plan, index as usize));
+        index += 1;
     }
-    let count = io::read_full(file, buffer);
-    libc::close(file);
-    count
 }
 
-fn print_refusal(refusal: Refusal) {
-    let mut line = [0u8; 64];
-    let count = text::put_refusal(&mut line, refusal);
-    io::write_all(STDOUT_FILENO, &line[..count]);
-}
-
-// The plan and HOB buffers of page 01 have these lengths, and the checks need no more of them.
-fn print_answer(image: &[u8], map: &[u8]) {
-    let checked = launch::check(image, map, 48, 65536, 8192);
-    match checked {
-        Checked::Refused(refusal) => print_refusal(refusal),
-        Checked::Accepted(_) => {
-            io::write_all(STDOUT_FILENO, b"accepted\n");
-        }
-    }
+fn print_answer(answer: Answer, plan: &[u8])
+    requires { ⌜ answer .pages ≤ 4096 ⌝ }
+{
+    let refusal = answer.refusal;
+    let Refusal::Nothing = refusal else {
+        print_refusal(refusal);
+        return;
+    };
+    print_summary(answer.pages, answer.handoff, answer.blocks);
+    print_pages(plan, answer.pages);
 }
 
 // The image's buffer has a byte more than an image may have, so that one too long is seen. A map of 64 records has 1,536 bytes,
@@ -48,5 +57,8 @@ fn main() {
     }
     let mut map = [0u8; 4096];
     let size = read_file(b"map.bin", &mut map);
-    print_answer(&image[..length], &map[..size]);
+    let mut plan = [0u8; 65536];
+    let mut handoff = [0u8; 8192];
+    let answer = launch::launch(&image[..length], &map[..size], 48, &mut plan, &mut handoff);
+    print_answer(answer, &plan);
 }

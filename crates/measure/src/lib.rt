@@ -48,7 +48,7 @@ fn page_in(bytes: &[u8]) -> Page
 }
 
 // The page of a record. What the plan's end cuts off reads as zeros.
-fn page_at(plan: &[u8], index: usize) -> Page
+pub fn page_at(plan: &[u8], index: usize) -> Page
     requires { ⌜ index < 2 ^ 59 ⌝ }
     ensures { λ r. ⌜ r ≡ pageAt (now (plan .entry)) index ⌝ }
 {

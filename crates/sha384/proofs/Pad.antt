@@ -86,6 +86,11 @@ length-padding n =
     ap suc (length-append (replicate (zeros n) 0) (bytes 16 (8 * n)))
     ∙ omega (arith, length-replicate {A = ℕ} (zeros n) 0, length-bytes 16 (8 * n))
 
+-- after a message of whole blocks the padding is one block, so that a digest of q blocks takes q + 1
+pub padding-whole : (q : ℕ) → length (padding (128 * q)) ≡ 128
+unfolding zeros
+padding-whole q = length-padding (128 * q) ∙ omega arith
+
 -- ---- what the code writes into zeros, from the front on
 
 -- b is N zeros with xs, which are i bytes, written at its start

@@ -4,7 +4,7 @@ use mathlib.Core.List.{[], _∷_}
 use Rattle.verdict.specs.declared.Place.the-variants.{Nowhere, Section, Record}
 use Rattle.verdict.specs.declared.Refusal.the-variants as is
 use Rattle.verdict.specs.Refusal.{number, place}
-use Rattle.text.specs.Text.{within, leading, decimal, hexDigit, hexadecimal, refusedLabel, sectionLabel, recordLabel, placeText, refusalText, pagesLabel, hobLabel, blocksLabel, summaryText, spaced, pageText}
+use Rattle.text.specs.Text.{within, leading, decimal, hexDigit, hexadecimal, refusedLabel, sectionLabel, recordLabel, placeText, refusalText, pagesLabel, hobLabel, blocksLabel, summaryText, spaced, pageText, bytesText, measurementText}
 
 -- "0", "9", "10", "4096", "18446744073709551615"
 pub zero-is : decimal 0 ≡ 0x30 ∷ []
@@ -86,3 +86,9 @@ pub second-temporary-is : pageText (record { address = 0xB000; offset = 0; lengt
     0x20 ∷ 0x30 ∷ 0x20 ∷ 0x30 ∷ 0x20 ∷ 0x33 ∷ 0x20 ∷ 0x30 ∷ 0x0A ∷ []
 unfolding pageText spaced hexadecimal hexDigit decimal leading within
 second-temporary-is = refl
+
+-- "ae0f90ff" and the newline: each byte has two digits, the high one first, in lower case
+pub bytes-are : measurementText (0xAE ∷ 0x0F ∷ 0x90 ∷ 0xFF ∷ []) ≡
+    0x61 ∷ 0x65 ∷ 0x30 ∷ 0x66 ∷ 0x39 ∷ 0x30 ∷ 0x66 ∷ 0x66 ∷ 0x0A ∷ []
+unfolding measurementText bytesText hexadecimal hexDigit
+bytes-are = refl

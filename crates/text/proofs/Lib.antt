@@ -2,5 +2,6 @@
 pub mod Digits
 pub mod Decimal
 pub mod Hexadecimal
+pub mod Bytes
 pub mod Texts
 pub mod Example

@@ -1,7 +1,7 @@
 -- Texts written one behind the other, and how long they are. Assumes nothing.
 use mathlib.Core.Path.{_≡_, refl, sym, ap, _∙_}
 use mathlib.Core.List.{List, [], _∷_, _++_}
-use Prim.Native.Nat.{ℕ, _+_, _≤_}
+use Prim.Native.Nat.{ℕ, _+_, _*_, _≤_}
 use native.Mathlib.Omega.{arith}
 use lib.ListN.{length, length-append}
 use lib.Seq.{sets}
@@ -11,8 +11,9 @@ use Rattle.verdict.specs.declared.Place.the-variants.{Nowhere}
 use Rattle.verdict.specs.declared.Refusal.{Refusal}
 use Rattle.verdict.specs.Refusal.{number, place}
 use Rattle.plan.specs.declared.Page.{Page}
-use Rattle.text.specs.Text.{decimal, hexadecimal, refusedLabel, placeText, refusalText, pagesLabel, hobLabel, blocksLabel, summaryText, spaced, pageText}
+use Rattle.text.specs.Text.{decimal, hexadecimal, refusedLabel, placeText, refusalText, pagesLabel, hobLabel, blocksLabel, summaryText, spaced, pageText, bytesText, measurementText}
 use Rattle.text.proofs.Hexadecimal.{length-hexadecimal}
+use Rattle.text.proofs.Bytes.{length-bytes}
 
 -- ---- one behind the other
 
@@ -131,3 +132,18 @@ page-is l p m₁ m₂ m₃ m₄ m₅ m e₁ e₂ e₃ e₄ e₅ end w₁ w₂ w�
     (behind m₂ (spaced (p .length)) third m₃ m e₂ e₃ end 21 43 w₃
     (behind m₃ (spaced (p .sort)) fourth m₄ m e₃ e₄ end 21 22 w₄
     (ended m₄ (spaced (p .measured)) m₅ m e₄ e₅ end 21 w₅ newline)))))
+
+-- ---- a measurement
+
+-- the bytes, two digits each, then the newline
+pub measurement-is :
+    (l bytes m n : List ℕ) (next end : ℕ) →
+    length bytes ≡ 48 →
+    (m ≡ sets l 0 (bytesText bytes)) × (next ≡ 2 * length bytes) →
+    (n ≡ sets m next (10 ∷ [])) × (end ≡ next + 1) →
+    (n ≡ sets l 0 (measurementText bytes)) × (end ≡ 97)
+unfolding measurementText
+measurement-is l bytes m n next end size first newline = (
+  ended l (bytesText bytes) m n 0 next end 96 (first .0, (omega (arith, length-bytes bytes), omega arith)) newline .0,
+  omega arith,
+)

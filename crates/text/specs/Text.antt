@@ -89,3 +89,12 @@ spaced v = (0x20 ∷ []) ++ decimal v
 unfoldable pub pageText : Page → List ℕ
 pageText p =
     hexadecimal 16 (p .address) ++ (spaced (p .offset) ++ (spaced (p .length) ++ (spaced (p .sort) ++ (spaced (p .measured) ++ (10 ∷ [])))))
+
+-- each byte in two hexadecimal digits, one byte behind the other
+unfoldable pub bytesText : List ℕ → List ℕ
+bytesText [] = []
+bytesText (b ∷ bs) = hexadecimal 2 b ++ bytesText bs
+
+-- the measurement, and a newline
+unfoldable pub measurementText : List ℕ → List ℕ
+measurementText m = bytesText m ++ (10 ∷ [])

@@ -1,12 +1,13 @@
 // The text of an answer, written into a lent buffer.
 //
-// The contracts cite `specs/Text.antt`. Each function answers where its text ends, so that the next can go on there.
+// The contracts cite `specs/Text.antt`. Each writer but `put_byte`, whose text always has two bytes, answers
+// where its text ends, so that the next can go on there.
 ghost use mathlib.Core.Path.{_≡_};
 ghost use mathlib.Core.List.{[], _∷_, _++_};
-ghost use Prim.Native.Nat.{_+_, _%_, _≤_};
+ghost use Prim.Native.Nat.{_+_, _*_, _%_, _≤_};
 ghost use lib.ListN.{length};
 ghost use lib.Seq.{sets};
-ghost use Rattle.text.specs.Text.{lastDigit, decimal, hexDigit, hexadecimal, placeText, refusalText, summaryText, spaced, pageText};
+ghost use Rattle.text.specs.Text.{lastDigit, decimal, hexDigit, hexadecimal, placeText, refusalText, summaryText, spaced, pageText, bytesText, measurementText};
 use plan::Page;
 use verdict::Place;
 use verdict::Refusal;
@@ -77,6 +78,15 @@ fn put_hexadecimal(buffer: &mut [u8], at: usize, value: u64) -> usize
         rest = rest / 16;
     }
     at + 16
+}
+
+// Writes a byte at `at` in two hexadecimal digits, the high one first.
+fn put_byte(buffer: &mut [u8], at: usize, byte: u8)
+    requires { ⌜ at + 2 ≤ length (now buffer) ⌝ }
+    ensures { λ _. ⌜ now (buffer .exit) ≡ sets (now (buffer .entry)) at (hexadecimal 2 byte) ⌝ }
+{
+    buffer[at] = last_hexadecimal(byte as u64 / 16);
+    buffer[at + 1] = last_hexadecimal(byte as u64);
 }
 
 // ---- parts of a line
@@ -168,4 +178,29 @@ pub fn put_page(buffer: &mut [u8], p: Page) -> usize
     let after_sort = put_spaced(buffer, after_length, p.sort as u64);
     let after_measured = put_spaced(buffer, after_sort, p.measured as u64);
     put_newline(buffer, after_measured)
+}
+
+// Writes bytes at the start of the buffer, in two hexadecimal digits each, and answers where they end.
+fn put_bytes(buffer: &mut [u8], bytes: &[u8]) -> usize
+    requires { ⌜ 2 * length (now bytes) ≤ length (now buffer) ⌝ }
+    ensures { λ _. ⌜ now (buffer .exit) ≡ sets (now (buffer .entry)) 0 (bytesText (now (bytes .entry))) ⌝ }
+    ensures { λ r. ⌜ r ≡ 2 * length (now (bytes .entry)) ⌝ }
+{
+    let mut index = 0;
+    while index < bytes.len() {
+        put_byte(buffer, 2 * index, bytes[index]);
+        index += 1;
+    }
+    2 * index
+}
+
+// Writes a measurement's line at the start of the buffer, and answers how long it is: two digits for each of the 48 bytes, and the
+// newline.
+pub fn put_measurement(buffer: &mut [u8], measurement: &[u8; 48]) -> usize
+    requires { ⌜ 97 ≤ length (now buffer) ⌝ }
+    ensures { λ _. ⌜ now (buffer .exit) ≡ sets (now (buffer .entry)) 0 (measurementText (now (measurement .entry))) ⌝ }
+    ensures { λ r. ⌜ r ≡ 97 ⌝ }
+{
+    let end = put_bytes(buffer, measurement);
+    put_newline(buffer, end)
 }
