@@ -14,8 +14,12 @@ use Rattle.measure.specs.Stream.{measuredPages, blockCount}
 use Rattle.launch.specs.Host.{buffersBroken, widthBroken}
 use Rattle.launch.specs.Rules.{outsideBroken, handoffLength, listBroken, firstRules, sectionRules, lastRules, rules, verdict}
 use Rattle.launch.specs.Launch.{pageList, refusedAnswer, acceptedAnswer, accepted, answer}
-use Rattle.launch.specs.Cases.{sectionBytes, descriptorBytes, imageOf, recordBytes, boot, hob, temporary, image, ram, firmware, hostOf, host, told, starred, Holds}
+use Rattle.launch.specs.Cases.{sectionBytes, descriptorBytes, imageOf, recordBytes, boot, hob, temporary, image, ram, firmware, hostOf, host, told, starred, further, Holds}
 
 pub claim : Holds starred
 unfolding le numberAt number place refusalOf inTurn judge recordAt records countBroken multipleBroken top endBroken kindBroken orderBroken endBefore causeNumber causePlace widthAllowed recordTried mapTried mapRules ramOr holds inside offsetWord sectionCount descriptorAt fieldsOf signature lengthField version sectionAt sections lengthBroken offsetBroken signatureBroken versionBroken descriptorBroken attributesAllowed rawAllowed kindAllowed sortBroken attributesBroken rawBroken dataBroken memoryBroken imageRules shares sharedBroken howMany bootBroken handoffBroken pagesInAll pagesBroken handoffSection sourceOf dataLength dataOffset pageOf pagesOf pages lowerOf nextOf pieceAt cut piecesOf pieces listLength measuredPages blockCount buffersBroken widthBroken outsideBroken handoffLength listBroken firstRules descriptorRules sectionRules lastRules rules verdict pageList refusedAnswer acceptedAnswer accepted answer sectionBytes descriptorBytes imageOf recordBytes boot hob temporary image ram firmware hostOf host told starred
 claim = (refl, (refl, (refl, (refl, (refl, (refl, (refl, (refl, (refl, (refl, (refl, (refl, (refl, (refl, (refl, tt)))))))))))))))
+
+pub further-claim : Holds further
+unfolding le numberAt number place refusalOf inTurn judge recordAt records countBroken multipleBroken top endBroken kindBroken orderBroken endBefore causeNumber causePlace widthAllowed recordTried mapTried mapRules ramOr holds inside offsetWord sectionCount descriptorAt fieldsOf signature lengthField version sectionAt sections lengthBroken offsetBroken signatureBroken versionBroken descriptorBroken attributesAllowed rawAllowed kindAllowed sortBroken attributesBroken rawBroken dataBroken memoryBroken imageRules shares sharedBroken howMany bootBroken handoffBroken pagesInAll pagesBroken handoffSection sourceOf dataLength dataOffset pageOf pagesOf pages lowerOf nextOf pieceAt cut piecesOf pieces listLength measuredPages blockCount buffersBroken widthBroken outsideBroken handoffLength listBroken firstRules descriptorRules sectionRules lastRules rules verdict pageList refusedAnswer acceptedAnswer accepted answer sectionBytes descriptorBytes imageOf recordBytes boot hob temporary image ram firmware hostOf host told further
+further-claim = (refl, (refl, (refl, (refl, (refl, (refl, (refl, (refl, (refl, (refl, tt))))))))))

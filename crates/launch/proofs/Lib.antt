@@ -3,6 +3,7 @@
 pub mod Cases
 pub mod Worked
 pub mod Verdict
+pub mod Places
 pub mod Refused
 pub mod Filled
 pub mod Whole

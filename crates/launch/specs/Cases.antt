@@ -9,6 +9,7 @@ use Rattle.verdict.specs.declared.Place.{Place}
 use Rattle.verdict.specs.declared.Place.the-variants.{Nowhere, Section}
 use Rattle.verdict.specs.Refusal as of
 use Rattle.verdict.specs.Rules.{pick}
+use Rattle.verdict.specs.Turns.{inTurn}
 use Rattle.tdvf.specs.Image.{fieldsOf, signature}
 use Rattle.plan.specs.declared.Page.{Page}
 use Rattle.launch.specs.Host.{Host}
@@ -130,6 +131,37 @@ starred =
     case host (three (sectionBytes 0 4096 0xFFFFF000 0x1000 0 0) hob temporary) (refuses 10 (Section 0)) ∷
     -- "A fourth section, a second TD HOB of 0x1000 at 0xC000, with D = 3,920: 17"
     case host (imageOf 3920 (descriptorBytes 4 (boot ++ hob ++ temporary ++ sectionBytes 0 0 0xC000 0x1000 2 0))) (refuses 17 Nowhere) ∷ []
+
+-- n records of MMIO of a page each, two pages apart, from `at` on
+abbrev mapped : ℕ → ℕ → List ℕ
+mapped at n = inTurn (λ k. recordBytes (at + 0x2000 * k) 0x1000 3) n
+
+-- and some that the page does not star
+unfoldable pub further : List Case
+further =
+    -- rule 1: each buffer one byte short, and both broken rules 1 and 2
+    case (record { map = ram ++ firmware; width = 48; plan = 65535; handoff = 8192 }) image (refuses 1 Nowhere) ∷
+    case (record { map = ram ++ firmware; width = 48; plan = 65536; handoff = 8191 }) image (refuses 1 Nowhere) ∷
+    case (record { map = ram ++ firmware; width = 50; plan = 0; handoff = 8192 }) image (refuses 1 Nowhere) ∷
+    -- longer buffers
+    case (record { map = ram ++ firmware; width = 52; plan = 70001; handoff = 9999 }) image (accepts 4 52 4096) ∷
+    -- "Signature wrong and version wrong: 6": the descriptor's start is one byte early
+    case host (imageOf 3951 (0 ∷ descriptorBytes 3 (boot ++ hob ++ temporary))) (refuses 6 Nowhere) ∷
+    -- "they may share image bytes": a second boot volume with the same data
+    case host (imageOf 3920 (descriptorBytes 4 (boot ++ hob ++ temporary ++ sectionBytes 0 4096 0x1000 0x1000 0 1))) (accepts 5 101 4096) ∷
+    -- "rules 16 to 19 come after all sections": no boot volume, and section 1 over section 0
+    case host (imageOf 3984 (descriptorBytes 2 (hob ++ sectionBytes 0 0 0x9000 0x1000 3 0))) (refuses 15 (Section 1)) ∷
+    case host (imageOf 3984 (descriptorBytes 2 (hob ++ temporary))) (refuses 16 Nowhere) ∷
+    -- "HOB list longer than the TD HOB section's memory size": 43 pieces of RAM and 41 of MMIO are 4,096 bytes, and one more is too long
+    case (hostOf (large ++ mapped 0x200000 41 ++ firmware) 48) many (accepts 22 70 4096) ∷
+    case (hostOf (large ++ mapped 0x200000 42 ++ firmware) 48) many (refuses 19 Nowhere) ∷ []
+  where
+    large : List ℕ
+    large = recordBytes 0 0x100000 1
+
+    -- twenty pages of temporary memory, two pages apart
+    many : List ℕ
+    many = imageOf 3344 (descriptorBytes 22 (boot ++ hob ++ inTurn (λ k. sectionBytes 0 0 (0x10000 + 0x2000 * k) 0x1000 3 0) 20))
 
 -- every case tells what it says
 abbrev pub Holds : List Case → Type 0
