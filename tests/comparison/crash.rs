@@ -1,7 +1,10 @@
-//! What is said where a call does not come back: which launch it was, with its inputs as files.
+//! What is said where a call does not come back, or the test itself panics: which launch it was, with
+//! its inputs as files.
 
 use crate::draft::Launch;
 use std::fs;
+use std::panic;
+use std::process::exit;
 use std::sync::atomic::{AtomicBool, Ordering};
 use std::sync::Mutex;
 
@@ -43,6 +46,21 @@ pub fn watch() {
     for (number, _) in SIGNALS {
         unsafe { signal(number, caught as extern "C" fn(i32) as usize) };
     }
+    panic::set_hook(Box::new(|what| {
+        println!("FAILED, the second loader or the test panicked: {what}");
+        tell();
+        exit(1);
+    }));
+}
+
+/// Names the launch, and keeps its inputs where it is one launch alone.
+fn tell() {
+    if let Ok(current) = CURRENT.try_lock() {
+        println!("{}", current.name);
+        if let Some(launch) = unsafe { current.launch.as_ref() } {
+            keep(launch);
+        }
+    }
 }
 
 /// Names the launch that comes next.
@@ -76,20 +94,15 @@ extern "C" fn caught(number: i32) {
         unsafe { _exit(2) }
     }
     println!("FAILED in the library's call, by {signal}");
-    if let Ok(current) = CURRENT.try_lock() {
-        println!("{}", current.name);
-        if let Some(launch) = unsafe { current.launch.as_ref() } {
-            keep(launch);
-        }
-    }
+    tell();
     unsafe { _exit(1) }
 }
 
 /// Writes the launch's inputs where a reader finds them, and says how to make it again.
 pub fn keep(launch: &Launch) {
     let files = [
-        ("failed-image.bin", &launch.image),
-        ("failed-map.bin", &launch.map),
+        ("compare-image.bin", &launch.image),
+        ("compare-map.bin", &launch.map),
     ];
     for (name, bytes) in files {
         let path = format!("{FOLDER}/{name}");
