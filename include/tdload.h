@@ -2,7 +2,7 @@
    whose every function is proved.
 
    Link target/staticlib/libtdload.a, which `rt staticlib tdload` writes. It is for x86-64 Linux and
-   needs no other library.
+   needs nothing but memcpy and memset of the C library.
 
    What every function here asks of its caller, which C cannot check and the function does not test:
 
