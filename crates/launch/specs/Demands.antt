@@ -1,5 +1,5 @@
--- The owner's demands, as statements. Each is the whole type of one declaration of proofs/Demands, which proves it. The contract of `launch`
--- says that its answer is `answer`, and that the buffers hold `planAfter` and `handoffAfter` when it returns: for every input, since it
+-- The owner's demands, as statements. Each is the whole type of one declaration of proofs/Demands or proofs/Unread, which proves it. The contract
+-- of `launch` says that its answer is `answer`, and that the buffers hold `planAfter` and `handoffAfter` when it returns: for every input, since it
 -- requires nothing. So what is said here of these three is said of the function.
 -- Assumes nothing.
 use mathlib.Core.Path.{_≡_}
