@@ -124,8 +124,8 @@ def maps():
     yield "overlap with a record before the last", IMAGE, LOW + HIGH + record(0x20000, 0x1000, RAM), refused(4)
 
 
-def own():
-    """Rules 9 to 13: a section by itself."""
+def typed():
+    """Rules 9 and 10: a section's type and attributes."""
     for sort in (4, 5, 256, 2**31):
         wrong = section(0, 0, 0xA000, 0x2000, sort, 0)
         yield f"type {sort}", image([BOOT, HANDOFF, wrong]), MAP, refused(9, 2)
@@ -144,6 +144,9 @@ def own():
     yield "temporary memory, attributes 1", with_spare(attributes=1), MAP, refused(10, 2)
     yield "temporary memory, attributes 4", with_spare(attributes=4), MAP, refused(10, 2)
 
+
+def sized():
+    """Rules 11 to 13: a section's data, and its address and size in memory."""
     yield "boot volume, raw size 0", with_boot(raw=0), MAP, refused(11, 0)
     yield "boot volume, raw size 1", with_boot(raw=1), MAP, ACCEPTED
     yield "configuration volume, raw size 0", with_config(raw=0), MAP, refused(11, 3)
@@ -308,7 +311,7 @@ def measured():
 
 
 def every():
-    return itertools.chain(images(), maps(), own(), lying(), whole(), order(), measured())
+    return itertools.chain(images(), maps(), typed(), sized(), lying(), whole(), order(), measured())
 
 
 def printed(program, held, layout):

@@ -71,29 +71,23 @@ fn meets(answer: &second::Answer, want: &Want) -> bool {
     }
 }
 
+/// A little-endian number.
+fn number(bytes: &[u8]) -> u64 {
+    bytes.iter().rev().fold(0, |sum, &byte| sum << 8 | u64::from(byte))
+}
+
 /// The worked launch's plan, pieces and end address, as the page lists them.
 fn page_buffers(bench: &mut Bench) -> Result<(), String> {
     bench.try_draft(&page_launch())?;
     let launch = bench.rendered();
     let (_, plan, hob) = second::launch(&launch.image, &launch.map, 48, 65_536, 8_192);
-    let number = |bytes: &[u8]| {
-        bytes
-            .iter()
-            .rev()
-            .fold(0u64, |sum, &byte| sum << 8 | u64::from(byte))
-    };
-    let records: Vec<_> = (0..4)
-        .map(|k| {
-            let r = &plan[16 * k..16 * k + 16];
-            (
-                number(&r[..8]),
-                number(&r[8..12]),
-                number(&r[12..14]),
-                r[14],
-                r[15],
-            )
-        })
-        .collect();
+    page_plan(&plan)?;
+    page_list(&hob)
+}
+
+fn page_plan(plan: &[u8]) -> Result<(), String> {
+    let read = |r: &[u8]| (number(&r[..8]), number(&r[8..12]), number(&r[12..14]), r[14], r[15]);
+    let records: Vec<_> = plan.chunks(16).take(4).map(read).collect();
     let listed = [
         (0xFFFF_F000, 0, 4096, 0, 1),
         (0x9000, 0, 256, 2, 0),
@@ -103,16 +97,15 @@ fn page_buffers(bench: &mut Bench) -> Result<(), String> {
     if records != listed {
         return Err(format!("the worked launch's plan is {records:x?}"));
     }
-    let pieces: Vec<_> = (0..4)
-        .map(|k| {
-            let p = &hob[56 + 48 * k..56 + 48 * (k + 1)];
-            (
-                number(&p[32..40]),
-                number(&p[32..40]) + number(&p[40..48]),
-                number(&p[24..28]),
-            )
-        })
-        .collect();
+    Ok(())
+}
+
+fn page_list(hob: &[u8]) -> Result<(), String> {
+    let read = |p: &[u8]| {
+        let start = number(&p[32..40]);
+        (start, start + number(&p[40..48]), number(&p[24..28]))
+    };
+    let pieces: Vec<_> = hob[56..].chunks(48).take(4).map(read).collect();
     let listed = [
         (0, 0x9000, 7),
         (0x9000, 0xA000, 0),

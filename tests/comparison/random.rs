@@ -398,16 +398,7 @@ fn aim_map(draft: &mut Draft, random: &mut Random) {
         4 => draft.records[k].zero = 1 << random.below(32),
         5 => draft.map_length = Some(random.index(draft.records.len() * 24 + 30)),
         6 => draft.records.clear(),
-        7 => {
-            // 60 to 70 records: those added follow the last one, if there is room below the top.
-            let count = random.within(60, 70) as usize;
-            while draft.records.len() < count {
-                let end = draft.records[draft.records.len() - 1].end();
-                draft
-                    .records
-                    .push(record(end, PAGE, random.pick(&[RAM, FIRMWARE, MMIO])));
-            }
-        }
+        7 => add_records(&mut draft.records, random),
         8 => {
             let last = draft.records.len() - 1;
             let by = random.pick(&[0, PAGE, 0u64.wrapping_sub(PAGE)]);
@@ -431,6 +422,15 @@ fn aim_map(draft: &mut Draft, random: &mut Random) {
             let copy = draft.records[k];
             draft.records.insert(k, copy);
         }
+    }
+}
+
+/// 60 to 70 records: those added follow the last one, if there is room below the top.
+fn add_records(records: &mut Vec<Record>, random: &mut Random) {
+    let count = random.within(60, 70) as usize;
+    while records.len() < count {
+        let end = records[records.len() - 1].end();
+        records.push(record(end, PAGE, random.pick(&[RAM, FIRMWARE, MMIO])));
     }
 }
 
@@ -486,7 +486,6 @@ fn aim_section(draft: &mut Draft, rule: u32, random: &mut Random) {
         return;
     }
     let k = random.pick(&able);
-    let length = draft.length as u64;
     let mut section = draft.sections[k];
     match rule {
         9 => {
@@ -499,55 +498,75 @@ fn aim_section(draft: &mut Draft, rule: u32, random: &mut Random) {
                 section.attributes = random.next() as u32;
             }
         }
-        11 if section.sort <= CFV => section.raw = 0,
-        11 => match random.below(3) {
-            0 => section.raw = random.pick(&[1, 4_096, 1 << 31, u32::MAX]),
-            1 => section.offset = random.pick(&[1, 4_096, 1 << 31, u32::MAX]),
-            _ => {
-                section.raw = 1 + random.below(9) as u32;
-                section.offset = 1 + random.below(9) as u32;
-            }
-        },
-        12 => match random.below(5) {
-            0 => section.offset = (length - u64::from(section.raw).min(length) + 1) as u32,
-            1 => {
-                section.offset = 0u32
-                    .wrapping_sub(section.raw)
-                    .wrapping_add(random.below(3) as u32)
-            }
-            2 => section.offset = random.next() as u32,
-            3 => {
-                section.raw = (length + 1).saturating_sub(u64::from(section.offset)) as u32;
-                if section.size < u64::from(section.raw) && random.one_in(2) {
-                    section.size = (u64::from(section.raw) + 4_095) / PAGE * PAGE;
-                }
-            }
-            _ => section.offset = (length + random.below(3)) as u32,
-        },
-        13 => match random.below(6) {
-            0 => section.address += random.pick(&[1, 256, 2_048, 4_095]),
-            1 => section.size += random.pick(&[1, 256, 2_048, 4_095]),
-            2 => section.size = 0,
-            3 => section.size = u64::from(section.raw) / PAGE * PAGE,
-            4 => section.size = u64::from(section.raw),
-            _ => section.address ^= 1 << random.below(12),
-        },
+        11 => aim_raw(&mut section, random),
+        12 => aim_data(&mut section, draft.length as u64, random),
+        13 => aim_memory(&mut section, random),
         14 => aim_place(&mut section, &draft.records, random),
         _ => {
             let other = draft.sections[random.index(draft.sections.len())];
-            match random.below(5) {
-                0 => section.address = other.address,
-                1 => section.address = other.address + other.size - PAGE,
-                2 => section.address = (other.address + PAGE).wrapping_sub(section.size),
-                3 => section.address = other.address + other.size, // just behind: nothing is shared
-                _ => {
-                    section.address = other.address.wrapping_sub(PAGE);
-                    section.size = section.size.max(other.size + 2 * PAGE);
-                }
-            }
+            aim_shared(&mut section, &other, random);
         }
     }
     draft.sections[k] = section;
+}
+
+/// Rule 11: no data where there has to be some, or some where there has to be none.
+fn aim_raw(section: &mut Section, random: &mut Random) {
+    if section.sort <= CFV {
+        section.raw = 0;
+        return;
+    }
+    match random.below(3) {
+        0 => section.raw = random.pick(&[1, 4_096, 1 << 31, u32::MAX]),
+        1 => section.offset = random.pick(&[1, 4_096, 1 << 31, u32::MAX]),
+        _ => {
+            section.raw = 1 + random.below(9) as u32;
+            section.offset = 1 + random.below(9) as u32;
+        }
+    }
+}
+
+/// Rule 12: data that ends behind the image, or in 32 bits before it starts.
+fn aim_data(section: &mut Section, length: u64, random: &mut Random) {
+    match random.below(5) {
+        0 => section.offset = (length - u64::from(section.raw).min(length) + 1) as u32,
+        1 => section.offset = 0u32.wrapping_sub(section.raw).wrapping_add(random.below(3) as u32),
+        2 => section.offset = random.next() as u32,
+        3 => {
+            section.raw = (length + 1).saturating_sub(u64::from(section.offset)) as u32;
+            if section.size < u64::from(section.raw) && random.one_in(2) {
+                section.size = (u64::from(section.raw) + 4_095) / PAGE * PAGE;
+            }
+        }
+        _ => section.offset = (length + random.below(3)) as u32,
+    }
+}
+
+/// Rule 13: an address or a size that is no multiple, or a size too small.
+fn aim_memory(section: &mut Section, random: &mut Random) {
+    match random.below(6) {
+        0 => section.address += random.pick(&[1, 256, 2_048, 4_095]),
+        1 => section.size += random.pick(&[1, 256, 2_048, 4_095]),
+        2 => section.size = 0,
+        3 => section.size = u64::from(section.raw) / PAGE * PAGE,
+        4 => section.size = u64::from(section.raw),
+        _ => section.address ^= 1 << random.below(12),
+    }
+}
+
+/// Rule 15: at the start or the end of another section, around it, or just behind it, where nothing is
+/// shared.
+fn aim_shared(section: &mut Section, other: &Section, random: &mut Random) {
+    match random.below(5) {
+        0 => section.address = other.address,
+        1 => section.address = other.address + other.size - PAGE,
+        2 => section.address = (other.address + PAGE).wrapping_sub(section.size),
+        3 => section.address = other.address + other.size,
+        _ => {
+            section.address = other.address.wrapping_sub(PAGE);
+            section.size = section.size.max(other.size + 2 * PAGE);
+        }
+    }
 }
 
 /// Rule 14: over a record's bounds, between two records, in a kind that is not allowed, or where

@@ -1,18 +1,16 @@
 -- The owner's demands 1 and 2 and the first half of 3, proved: each declaration's type is a statement of specs/Demands, whole. Assumes nothing.
 use mathlib.Core.Path.{_≡_, refl, sym, ap, subst, _∙_}
-use mathlib.Core.Bool.{true, false}
+use mathlib.Core.Bool.{true, false, true≢false}
 use mathlib.Core.Logic.{_↔_, _⊎_, inl, inr}
-use mathlib.Core.List.{List, List·Memᴰ, List·Memᴰ·head, Memᴰ·append-right}
+use mathlib.Core.List.{List, List·Memᴰ}
 use Prim.Native.Nat.{ℕ, _-_, _*_, _<_}
 use native.Mathlib.Omega.{arith}
 use lib.ListN.{length, getD, replicate}
 use Rattle.verdict.specs.declared.Refusal.the-variants.{Nothing}
-use Rattle.verdict.specs.Refusal as refusal
-use Rattle.verdict.specs.Rules.{Rule}
 use Rattle.verdict.specs.Turns.{upTo}
 use Rattle.verdict.proofs.Turns.{upTo-of}
 use Rattle.verdict.proofs.Each.{each-upTo}
-use Rattle.verdict.proofs.Rules.{either, nothing?, number-of, place-of}
+use Rattle.verdict.proofs.Rules.{either}
 use Rattle.memory.specs.Map.{recordAt, recordCount, records, end}
 use Rattle.memory.proofs.Inside.{inside-meaning}
 use Rattle.tdvf.specs.Image.{Fields, fieldsOf, sectionCount, sectionAt, sections}
@@ -35,7 +33,7 @@ use Rattle.launch.specs.Rules.{handoffLength, rules, verdict}
 use Rattle.launch.specs.Launch.{pageList, handoffList, streamOf, acceptedAnswer, refusedAnswer, accepted, answer, thenZeros}
 use Rattle.launch.specs.Demands.{Accepts, FirstBroken, RefusedLaunch, Demand1, InMap, AcceptedLaunch, Demand2, Demand3Stream}
 use Rattle.launch.proofs.Keeps.{Keeps}
-use Rattle.launch.proofs.Verdict.{accepted-kept, verdict-first, rules-numbered}
+use Rattle.launch.proofs.Verdict.{accepted-kept, verdict-first, verdict-named}
 use Rattle.launch.proofs.Refused as refused
 use Rattle.launch.proofs.Accepted.{accepted-keeps, section-kept, map-kept}
 use Rattle.launch.proofs.Filled.{pages-sized-all, plan-long, list-long}
@@ -62,29 +60,28 @@ first-broken : (h : Host) (f : Fields) → (verdict h f ≡ Nothing → ⊥) →
 unfolding verdict
 first-broken h f n =
     let t = verdict-first h f n in
-    let r = t .first in
-    let m : List·Memᴰ r (rules h f) = subst (λ (l : List Rule). List·Memᴰ r l) (sym (t .row)) (Memᴰ·append-right (t .before) (List·Memᴰ·head refl)) in
-    let b = rules-numbered h f r m in
+    let named = verdict-named h f n in
     record {
       before = t .before;
-      first = r;
+      first = t .first;
       after = t .after;
       is = t .row;
       kept = t .kept;
       broken = t .broken;
-      number = ap refusal.number (t .answer) ∙ number-of (r .number) (r .place) (b .0) (b .1);
-      place = ap refusal.place (t .answer) ∙ place-of (r .number) (r .place);
+      number = named .by-number;
+      place = named .by-place;
     }
 
 pub demand-1 : Demand1
-demand-1 h image = step (nothing? (answer h image .refusal))
+demand-1 h image = step (either (accepted h image))
   where
-    refuses : accepted h image ≡ false → (answer h image .refusal ≡ Nothing → ⊥) → RefusedLaunch h image
-    refuses e n =
+    refuses : accepted h image ≡ false → RefusedLaunch h image
+    refuses e =
         let is = refused-verdict h image e in
         let counts = refused.refused-counts h image e in
+        let broken = first-broken h (fieldsOf image) (λ z. true≢false (sym (accepts h image z) ∙ e)) in
         record {
-          first = subst (FirstBroken (rules h (fieldsOf image))) (sym is) (first-broken h (fieldsOf image) (λ z. n (is ∙ z)));
+          first = subst (FirstBroken (rules h (fieldsOf image))) (sym is) broken;
           pages = counts .0;
           list = counts .1;
           blocks = counts .2;
@@ -93,13 +90,9 @@ demand-1 h image = step (nothing? (answer h image .refusal))
           handoff = refused.refused-handoff h image e;
         }
 
-    by : (answer h image .refusal ≡ Nothing → ⊥) → (accepted h image ≡ true) ⊎ (accepted h image ≡ false) → RefusedLaunch h image
-    by n (inl e) = absurd (n (accepts-accepted h image .1 e))
-    by n (inr e) = refuses e n
-
-    step : Dec (answer h image .refusal ≡ Nothing) → Accepts h image ⊎ RefusedLaunch h image
-    step (yes e) = inl e
-    step (no n) = inr (by n (either (accepted h image)))
+    step : (accepted h image ≡ true) ⊎ (accepted h image ≡ false) → Accepts h image ⊎ RefusedLaunch h image
+    step (inl e) = inl (accepts-accepted h image .1 e)
+    step (inr e) = inr (refuses e)
 
 -- ---- demand 2
 

@@ -79,7 +79,6 @@ rules-numbered h f =
       ),
     )
 
--- so a refusal has the number and the place of a broken rule
-pub verdict-named : (h : Host) (f : Fields) → (verdict h f ≡ Nothing → ⊥) → Named (rules h f)
-unfolding verdict
-verdict-named h f refused = named (rules h f) (rules-numbered h f) refused
+-- so a refusal has the number and the place of the first broken rule
+pub verdict-named : (h : Host) (f : Fields) (refused : verdict h f ≡ Nothing → ⊥) → Named (rules h f) (verdict-first h f refused)
+verdict-named h f refused = named (rules h f) (rules-numbered h f) (verdict-first h f refused)

@@ -139,7 +139,7 @@ mapped at n = inTurn (λ k. recordBytes (at + 0x2000 * k) 0x1000 3) n
 -- and some that the page does not star
 unfoldable pub further : List Case
 further =
-    -- rule 1: each buffer one byte short, and both broken rules 1 and 2
+    -- rule 1: each buffer one byte short, and rules 1 and 2 both broken
     case (record { map = ram ++ firmware; width = 48; plan = 65535; handoff = 8192 }) image (refuses 1 Nowhere) ∷
     case (record { map = ram ++ firmware; width = 48; plan = 65536; handoff = 8191 }) image (refuses 1 Nowhere) ∷
     case (record { map = ram ++ firmware; width = 50; plan = 0; handoff = 8192 }) image (refuses 1 Nowhere) ∷

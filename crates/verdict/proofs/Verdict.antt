@@ -70,32 +70,24 @@ first-refused before r after k b = judge-then before (r ∷ after) (accepts befo
 pub refused-exactly : (rs : List Rule) → (judge rs ≡ Nothing → ⊥) ↔ First rs
 refused-exactly rs = (refused-first rs, λ t e. refusal-is (t .first .number) (t .first .place) (sym (t .answer) ∙ e))
 
--- ---- the answer's number and place are those of a broken rule of the row
+-- ---- the answer's number and place are those of the first broken rule
 
-pub record Named (rs : List Rule) : Type 0 where
-  pub low : 1 ≤ number (judge rs)
-  pub high : number (judge rs) ≤ 19
-  pub rule : Rule
-  pub member : List·Memᴰ rule rs
-  pub broken : rule .broken ≡ true
-  pub by-number : rule .number ≡ number (judge rs)
-  pub by-place : rule .place ≡ place (judge rs)
+pub record Named (rs : List Rule) (t : First rs) : Type 0 where
+  pub low : 1 ≤ t .first .number
+  pub high : t .first .number ≤ 19
+  pub by-number : number (judge rs) ≡ t .first .number
+  pub by-place : place (judge rs) ≡ t .first .place
 
-pub named : (rs : List Rule) → Numbered rs → (judge rs ≡ Nothing → ⊥) → Named rs
-named rs h n =
-    let t : First rs = refused-first rs n in
+pub named : (rs : List Rule) → Numbered rs → (t : First rs) → Named rs t
+named rs h t =
     let r : Rule = t .first in
     let m : List·Memᴰ r rs =
     subst (λ (l : List Rule). List·Memᴰ r l) (sym (t .row)) (Memᴰ·append-right (t .before) (List·Memᴰ·head refl)) in
-    let e : number (judge rs) ≡ r .number = ap number (t .answer) ∙ number-of (r .number) (r .place) (h r m .0) (h r m .1) in
     record {
-      low = subst (λ (k : ℕ). 1 ≤ k) (sym e) (h r m .0);
-      high = subst (λ (k : ℕ). k ≤ 19) (sym e) (h r m .1);
-      rule = r;
-      member = m;
-      broken = t .broken;
-      by-number = sym e;
-      by-place = sym (ap place (t .answer) ∙ place-of (r .number) (r .place));
+      low = h r m .0;
+      high = h r m .1;
+      by-number = ap number (t .answer) ∙ number-of (r .number) (r .place) (h r m .0) (h r m .1);
+      by-place = ap place (t .answer) ∙ place-of (r .number) (r .place);
     }
 
 -- ---- rows that are joined, and rows in turn
