@@ -1,10 +1,10 @@
--- What an accepted launch hands its writers, and that what they write and count is the launch's page list, HOB list and numbers.
+-- What an accepted launch hands its writers, and that what they write and measure is the launch's page list, HOB list and measurement.
 -- Assumes nothing.
 use mathlib.Core.Path.{◌≡◌, refl, sym, ap, ap₂, subst, ◌∙◌}
 use mathlib.Core.List.{List, ◌++◌}
 use Prim.Native.Nat.{ℕ, zero, suc, ◌+◌, ◌-◌, ◌*◌, ◌%◌, ◌^◌, ◌≤◌, ◌<◌}
 use native.Mathlib.Omega.{arith}
-use lib.ListN.{length, take, drop, replicate}
+use lib.ListN.{length, take, drop}
 use lib.Seq.{sets}
 use borrow.Author.Tests.{eqb-true}
 use Rattle.wire.proofs.Sets.{sets-front}
@@ -26,14 +26,15 @@ use Rattle.plan.proofs.Back.{Sized, each-page, pages-sized}
 use Rattle.handoff.specs.Pieces.{EndsFit, pieces}
 use Rattle.handoff.specs.List.{list_length, list_bytes}
 use Rattle.handoff.proofs.Size as size
-use Rattle.measure.specs.Stream.{block_count, before}
-use Rattle.measure.proofs.Launch.{Volume, plan-number}
+use Rattle.measure.specs.Stream.{stream, block_count, before, digest_of}
+use Rattle.measure.proofs.Length.{blocks-most}
+use Rattle.measure.proofs.Launch.{Volume, plan-number, digest-is}
+use Rattle.sha384.specs.Hash.{sha384}
 use Rattle.launch.specs.declared.Checked.TheVariants.{Accepted}
 use Rattle.launch.specs.declared.Layout.{Layout}
 use Rattle.launch.specs.Host.{Host, host_with}
 use Rattle.launch.specs.Rules.{handoff_length, verdict, layout_of, checked}
-use Rattle.launch.specs.Launch.{page_list, handoff_list, accepted_answer}
-use Rattle.launch.specs.Begin.{unmeasured}
+use Rattle.launch.specs.Launch.{page_list, handoff_list, stream_of, accepted_answer}
 use Rattle.launch.proofs.Keeps.{Keeps, keeps}
 use Rattle.launch.proofs.Laid.{answers-refusal, answers-layout}
 use Rattle.launch.proofs.Order.{first-kept, ends-fit, part-few, part-long, part-start, part-section, part-sections}
@@ -208,9 +209,14 @@ module _ (m : List ℕ) (w p q : ℕ) (image : List ℕ) (l : Layout) (e : check
     counted : before c l.pages ≡ block_count ps
     counted = ap₂ before behind at-pages ∙ plan-number ps rest (pages-sized-all host f kept) (pages-volume host f kept)
 
-    pub answer-is : (n : ℕ) → n ≡ before c l.pages
-        → record { refusal = Nothing; pages = l.pages; handoff = l.handoff; blocks = n; measurement = replicate 48 0 } ≡ unmeasured (accepted_answer bare image)
-    unfolding unmeasured accepted_answer handoff_length page_list
-    answer-is n k =
+    pub blocks-few : (n : ℕ) → n ≡ before c l.pages → n ≤ 2 ^ 32
+    blocks-few n k = omega (arith, counted, blocks-most ps, pages-few, at-pages, (last-kept host f kept).pages, pages-counted host f kept)
+
+    pub answer-is : (n : ℕ) (digest : List ℕ) → n ≡ before c l.pages → digest ≡ digest_of image c n
+        → record { refusal = Nothing; pages = l.pages; handoff = l.handoff; blocks = n; measurement = digest } ≡ accepted_answer bare image
+    unfolding accepted_answer stream_of handoff_list handoff_length page_list
+    answer-is n digest k g =
         let blocks : n ≡ block_count ps = k ∙ counted in
-        rw (at-pages, at-handoff, blocks)
+        let measured : digest ≡ sha384 (stream image (handoff_list host f) ps) =
+        g ∙ ap₂ (digest_of image) behind blocks ∙ digest-is ps rest (pages-sized-all host f kept) (pages-volume host f kept) image (handoff_list host f) in
+        rw (at-pages, at-handoff, blocks, measured)

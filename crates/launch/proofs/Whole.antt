@@ -1,4 +1,4 @@
--- The launch but for its measurement, as the code has it: both buffers cleared, then the checks, then a refusal or the writers. Assumes nothing.
+-- The launch whole, as the code has it: both buffers cleared, then the checks, then a refusal or the writers. Assumes nothing.
 use mathlib.Core.Path.{◌≡◌, sym, ap, ap₂, ◌∙◌}
 use mathlib.Core.Bool.{true, false}
 use mathlib.Core.List.{List}
@@ -22,7 +22,6 @@ use Rattle.launch.specs.Host.{Host, host_with}
 use Rattle.launch.specs.Rules.{handoff_length, verdict, layout_of, checked}
 use Rattle.launch.specs.Stages.{checked_refusal}
 use Rattle.launch.specs.Launch.{page_list, handoff_list, stream_of, accepted_answer, refused_answer, accepted, answer, plan_after, handoff_after}
-use Rattle.launch.specs.Begin.{unmeasured}
 use Rattle.launch.proofs.Keeps.{keeps}
 use Rattle.launch.proofs.Laid.{answers-refusal, answers-layout}
 use Rattle.launch.proofs.Filled.{lays, plan-long, list-long}
@@ -66,27 +65,27 @@ module _ (m : List ℕ) (w : ℕ) (image plan handoff p₁ h₁ : List ℕ) (cle
 
   -- a refusal: the buffers stay as they were cleared
   pub refused-whole : (r : Refusal) → c ≡ Refused r
-      → (refused_answer (checked_refusal c) ≡ unmeasured (answer host image)) × ((p₁ ≡ plan_after host image) × (h₁ ≡ handoff_after host image))
-  unfolding checked_refusal refused_answer unmeasured
+      → (refused_answer (checked_refusal c) ≡ answer host image) × ((p₁ ≡ plan_after host image) × (h₁ ≡ handoff_after host image))
+  unfolding checked_refusal
   refused-whole r k =
       let t = refuses host image r (sym same ∙ k) in (
-        ap (λ (d : Checked). refused_answer (checked_refusal d)) k ∙ ap refused_answer (sym t.is) ∙ ap unmeasured (sym (refused.refused-answer host image t.not)),
+        ap (λ (d : Checked). refused_answer (checked_refusal d)) k ∙ ap refused_answer (sym t.is) ∙ sym (refused.refused-answer host image t.not),
         (cleared ∙ sym (refused.refused-plan host image t.not), cleared₂ ∙ sym (refused.refused-handoff host image t.not)),
       )
 
   -- acceptance: the writers' bytes, and the zeros behind them
   pub accepted-whole : (l : Layout) → c ≡ Accepted l → (r : Answer) (p₂ h₂ : List ℕ)
-      → r ≡ unmeasured (accepted_answer (host_with m 0 0 0) image)
+      → r ≡ accepted_answer (host_with m 0 0 0) image
       → p₂ ≡ sets p₁ 0 (plan_bytes (page_list (host_with m 0 0 0) (fields_of image)))
       → h₂ ≡ sets h₁ 0 (handoff_list (host_with m 0 0 0) (fields_of image))
-      → (r ≡ unmeasured (answer host image)) × ((p₂ ≡ plan_after host image) × (h₂ ≡ handoff_after host image))
+      → (r ≡ answer host image) × ((p₂ ≡ plan_after host image) × (h₂ ≡ handoff_after host image))
   unfolding accepted_answer stream_of handoff_list handoff_length page_list
   accepted-whole l k r p₂ h₂ answers plans lists =
       let f = fields_of image in
       let none = (lays host f l (sym same ∙ k)).none in
       let kept = keeps host f none in
       let is = accepts host image none in (
-        answers ∙ ap unmeasured (sym (refused.accepted-answer host image is)),
+        answers ∙ sym (refused.accepted-answer host image is),
         (
           plans ∙ ap (λ (b : List ℕ). sets b 0 (plan_bytes (page_list host f))) cleared
               ∙ sets-replicate (length plan) 0 (plan_bytes (page_list host f)) (plan-long host f kept) ∙ sym (refused.accepted-plan host image is),

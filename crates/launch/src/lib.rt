@@ -1,5 +1,5 @@
 // The launch: the rules in the page's order, and what it answers.
-ghost use Rattle.std.specs.Prelude.{◌≡◌, [], ◌+◌, ◌*◌, ◌^◌, ◌≤◌};
+ghost use Rattle.std.specs.Prelude.{◌≡◌, [], ◌+◌, ◌*◌, ◌≤◌};
 ghost use Rattle.std.proofs.Math.ListN as list;
 ghost use Rattle.std.proofs.lemmas.List.Edits.{sets};
 ghost use Rattle.verdict.specs.Turns.{in_turn};
@@ -11,11 +11,10 @@ ghost use Rattle.handoff.specs.Pieces.{EndsFit};
 ghost use Rattle.launch.specs.Host.{host_with};
 ghost use Rattle.launch.specs.Rules.{first_rules, section_rules, checked};
 ghost use Rattle.launch.specs.Launch.{page_list, handoff_list, accepted_answer, refused_answer, answer, plan_after, handoff_after};
-ghost use Rattle.launch.specs.Begin.{unmeasured, started_with, begun};
 ghost use Rattle.launch.specs.Stages.{fields_with, located_refusal, last_of, laid_out, checked_refusal, Sound};
 
 use handoff::{count_pieces, list_length, write_list};
-use measure::{Progress, count_blocks, turn};
+use measure::{count_blocks, measure};
 use memory::{Fault, Lies, lies_in};
 use plan::write_plan;
 use tdvf::{Located, Totals, firmware_allowed, image_refusal, locate, meet, section_at, totals_of};
@@ -34,15 +33,6 @@ pub struct Answer {
     // How many blocks of 128 bytes the measured stream has.
     pub blocks: u64,
     pub measurement: [u8; 48],
-}
-
-// What the start of a measurement in turns answers.
-#[derive(Drop)]
-pub struct Begun {
-    // The launch's answer, with zeros in the measurement's place.
-    pub answer: Answer,
-    // The state for the first turn.
-    pub progress: Progress,
 }
 
 // What the checks answer.
@@ -238,10 +228,10 @@ fn refused_answer(refusal: Refusal) -> Answer
     }
 }
 
-// Fills both buffers for a launch that breaks no rule. What the plan loads is not measured yet.
+// Fills both buffers for a launch that breaks no rule, and measures what the plan loads.
 fn fill(image: &[u8], map: &[u8], layout: Layout, plan: &mut [u8], handoff: &mut [u8]) -> Answer
     requires { Sound image.now map.now layout (list.length plan.old) (list.length handoff.old) }
-    ensures value { result ≡ unmeasured (accepted_answer (host_with map.now 0 0 0) image.now) }
+    ensures value { result ≡ accepted_answer (host_with map.now 0 0 0) image.now }
     ensures plan_after { plan.new ≡ sets plan.old 0 (plan_bytes (page_list (host_with map.now 0 0 0) (fields_of image.now))) }
     ensures handoff_after { handoff.new ≡ sets handoff.old 0 (handoff_list (host_with map.now 0 0 0) (fields_of image.now)) }
 {
@@ -258,37 +248,19 @@ fn fill(image: &[u8], map: &[u8], layout: Layout, plan: &mut [u8], handoff: &mut
     );
     write_plan(plan, descriptor, count, layout.handoff);
     let blocks = count_blocks(plan, layout.pages as usize);
+    let measurement = measure(image, plan, blocks);
     Answer {
         refusal: Refusal::Nothing,
         pages: layout.pages,
         handoff: layout.handoff,
         blocks,
-        measurement: [0; 48],
+        measurement,
     }
 }
 
-// An answer and the state for the first turn: no block is done of the stream's and the padding's.
-fn started(answer: Answer, image: u64, plan: u64) -> Begun
-    requires { answer.blocks ≤ 2 ^ 32 }
-    ensures { result ≡ started_with answer image plan }
-{
-    let refusal = answer.refusal;
-    Begun {
-        answer,
-        progress: Progress {
-            hash: sha384::start(),
-            done: 0,
-            total: answer.blocks + 1,
-            image,
-            plan,
-            refusal,
-        },
-    }
-}
-
-// All of the launch but the measurement. Both buffers are cleared first, on every path, so that no older plan can survive in them.
-fn prepare(image: &[u8], map: &[u8], width: u32, plan: &mut [u8], handoff: &mut [u8]) -> Answer
-    ensures value { result ≡ unmeasured (answer (host_with map.now width (list.length plan.old) (list.length handoff.old)) image.now) }
+// The launch. Both buffers are cleared first, on every path, so that no older plan can survive in them.
+pub fn launch(image: &[u8], map: &[u8], width: u32, plan: &mut [u8], handoff: &mut [u8]) -> Answer
+    ensures value { result ≡ answer (host_with map.now width (list.length plan.old) (list.length handoff.old)) image.now }
     ensures plan_after { plan.new ≡ plan_after (host_with map.now width (list.length plan.old) (list.length handoff.old)) image.now }
     ensures handoff_after { handoff.new ≡ handoff_after (host_with map.now width (list.length plan.old) (list.length handoff.old)) image.now }
 {
@@ -299,35 +271,4 @@ fn prepare(image: &[u8], map: &[u8], width: u32, plan: &mut [u8], handoff: &mut 
         return refused_answer(checked_refusal(checked));
     };
     fill(image, map, layout, plan, handoff)
-}
-
-// The start of a measurement in turns.
-pub fn begin(image: &[u8], map: &[u8], width: u32, plan: &mut [u8], handoff: &mut [u8]) -> Begun
-    ensures value { result ≡ begun (host_with map.now width (list.length plan.old) (list.length handoff.old)) image.now }
-    ensures plan_after { plan.new ≡ plan_after (host_with map.now width (list.length plan.old) (list.length handoff.old)) image.now }
-    ensures handoff_after { handoff.new ≡ handoff_after (host_with map.now width (list.length plan.old) (list.length handoff.old)) image.now }
-{
-    let answer = prepare(image, map, width, plan, handoff);
-    started(answer, image.len() as u64, plan.len() as u64)
-}
-
-// The launch: the start, and one turn that does all blocks. A refused state's turn does none.
-pub fn launch(image: &[u8], map: &[u8], width: u32, plan: &mut [u8], handoff: &mut [u8]) -> Answer
-    ensures value { result ≡ answer (host_with map.now width (list.length plan.old) (list.length handoff.old)) image.now }
-    ensures plan_after { plan.new ≡ plan_after (host_with map.now width (list.length plan.old) (list.length handoff.old)) image.now }
-    ensures handoff_after { handoff.new ≡ handoff_after (host_with map.now width (list.length plan.old) (list.length handoff.old)) image.now }
-{
-    let begun = begin(image, map, width, plan, handoff);
-    let progress = begun.progress;
-    let turned = turn(progress, image, plan, progress.total);
-    let answer = begun.answer;
-    let refusal = answer.refusal;
-    let measurement = turned.measurement;
-    Answer {
-        refusal,
-        pages: answer.pages,
-        handoff: answer.handoff,
-        blocks: answer.blocks,
-        measurement,
-    }
 }

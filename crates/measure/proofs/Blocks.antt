@@ -1,45 +1,37 @@
 -- The blocks of a lent plan: how many each record gives, which record block n is in, and which of a page's blocks it is there.
 -- Assumes nothing.
-use Rattle.std.proofs.Common.{◌≡◌, ℕ, zero, suc, ◌+◌, ◌-◌, ◌*◌, ◌/◌, ◌%◌, ◌^◌, ◌<◌, ◌≤◌, Bool, true, false, List, [], ◌++◌, length, get_or, take, drop, sym, refl, ap, ◌∙◌, add-zero, add-suc, add-one, arith, length-append, get_or-append-add, eq-eqb, ne_eqb}
+use Rattle.std.proofs.Common.{◌≡◌, ℕ, zero, suc, ◌+◌, ◌-◌, ◌*◌, ◌/◌, ◌%◌, ◌^◌, ◌<◌, ◌≤◌, Bool, true, false, List, [], ◌++◌, length, get_or, take, drop, sym, refl, ap, ◌∙◌, add-one, arith, length-append, get_or-append-add, eq-eqb, ne_eqb}
 use native.Mathlib.Decide.{dec_le}
-use lib.ListN.{get_or-append}
+use lib.ListN.{get_or-append, get_or-eq_default}
 use Rattle.wire.proofs.Number.{number_at-one}
 use Rattle.verdict.specs.Rules.{pick}
 use Rattle.verdict.specs.Turns.{in_turn}
 use Rattle.verdict.proofs.Turns.{turn-add, turn-split, get_or-turn}
 use Rattle.plan.specs.declared.Page.{Page}
-use Rattle.plan.specs.Plan.{fields_at, zero_page, page_at}
+use Rattle.plan.specs.Plan.{page_at}
 use Rattle.plan.specs.View.{content, view, held}
-use Rattle.plan.proofs.Back.{page-inside, page-outside}
 use Rattle.measure.specs.Stream.{extend_tag, add_tag, head_block, chunk_blocks, extend_blocks, is_measured, page_blocks, plan_blocks, block_at, count_of, before}
-use Rattle.measure.specs.declared.Cursor.{Cursor}
-use Rattle.measure.specs.Cursor.{block_number, Stands}
-use Rattle.measure.proofs.Length.{Blocks, blocks-append, blocks_at, page-blocks, held-length}
+use Rattle.measure.proofs.Length.{page-blocks, held-length}
 use Rattle.measure.proofs.Bytes.{head-wraps}
 
 -- ---- how many blocks a record gives
 
-module _ (plan : List ℕ) (i : ℕ) (inside : i < length plan / 16) where
-  mark : (page_at plan i).measured ≡ get_or plan (16 * i + 15) 0
-  unfolding fields_at
-  mark = ap (λ (p : Page). p.measured) (page-inside plan i (omega arith)) ∙ number_at-one plan (16 * i + 15)
+mark : (plan : List ℕ) (i : ℕ) → (page_at plan i).measured ≡ get_or plan (16 * i + 15) 0
+unfolding page_at
+mark plan i = number_at-one plan (16 * i + 15)
 
-  pub count-measured : get_or plan (16 * i + 15) 0 ≡ 1 → count_of plan i ≡ 49
-  unfolding count_of
-  count-measured e = rw (eq-eqb (page_at plan i).measured 1 (mark ∙ e))
+pub count-measured : (plan : List ℕ) (i : ℕ) → get_or plan (16 * i + 15) 0 ≡ 1 → count_of plan i ≡ 49
+unfolding count_of
+count-measured plan i e = rw (eq-eqb (page_at plan i).measured 1 (mark plan i ∙ e))
 
-  pub count-other : (get_or plan (16 * i + 15) 0 ≡ 1 → ⊥) → count_of plan i ≡ 1
-  unfolding count_of
-  count-other h = rw (ne_eqb (page_at plan i).measured 1 (λ e. h (sym mark ∙ e)))
+pub count-other : (plan : List ℕ) (i : ℕ) → (get_or plan (16 * i + 15) 0 ≡ 1 → ⊥) → count_of plan i ≡ 1
+unfolding count_of
+count-other plan i h = rw (ne_eqb (page_at plan i).measured 1 (λ e. h (sym (mark plan i) ∙ e)))
 
 -- "records past the buffer's end read as zeros"
-module _ (plan : List ℕ) (i : ℕ) (past : length plan / 16 ≤ i) where
-  pub page-past : page_at plan i ≡ zero_page
-  page-past = page-outside plan i (omega arith)
-
-  pub count_past : count_of plan i ≡ 1
-  unfolding count_of zero_page
-  count_past = rw page-past
+pub count_past : (plan : List ℕ) (i : ℕ) → length plan ≤ 16 * i + 15 → count_of plan i ≡ 1
+count_past plan i h =
+    count-other plan i (λ e. let z : get_or plan (16 * i + 15) 0 ≡ 0 = get_or-eq_default plan 0 h in omega arith)
 
 picked : (b : Bool) → (1 ≤ pick b 49 1) × (pick b 49 1 ≤ 49) × (pick b 49 1 ≡ 1 + 48 * pick b 1 0)
 picked true = (omega arith, omega arith, refl)
@@ -83,12 +75,6 @@ unfolding before
 before-most plan zero = omega arith
 before-most plan (suc r) = omega (arith, before-most plan r, count_most plan r)
 
--- past the plan's end each record gives one
-pub before-past : (plan : List ℕ) (r k : ℕ) → length plan / 16 ≤ r → before plan (r + k) ≡ before plan r + k
-unfolding before
-before-past plan r zero h = rw (add-zero r) (omega arith)
-before-past plan r (suc k) h = rw (add-suc r k) (omega (arith, before-past plan r k h, count_past plan (r + k) (omega arith)))
-
 -- ---- the blocks themselves
 
 module _ (image plan : List ℕ) where
@@ -105,15 +91,6 @@ module _ (image plan : List ℕ) where
   unfolding plan_blocks record_blocks
   blocks-turn r = refl
 
-  record-whole : (i : ℕ) → Blocks (record_blocks i)
-  unfolding record_blocks
-  record-whole i = let p = page_at plan i in (page-blocks p (held image [] p) (held-length image [] p)).0
-
-  turn-whole : (r : ℕ) → Blocks (in_turn record_blocks r)
-  unfolding in_turn
-  turn-whole zero = tt
-  turn-whole (suc r) = blocks-append (in_turn record_blocks r) (record_blocks r) (turn-whole r) (record-whole r)
-
   turn-count : (r : ℕ) → length (in_turn record_blocks r) ≡ before plan r
   unfolding in_turn before
   turn-count zero = refl
@@ -121,13 +98,6 @@ module _ (image plan : List ℕ) where
 
   pub plan-count : (r : ℕ) → length (plan_blocks image plan r) ≡ before plan r
   plan-count r = ap length (blocks-turn r) ∙ turn-count r
-
-  -- there is always a block n, of 128 bytes
-  pub block-length : (n : ℕ) → length (block_at image plan n) ≡ 128
-  unfolding block_at
-  block-length n =
-      ap (λ (s : List (List ℕ)). length (get_or s n [])) (blocks-turn (n + 1))
-      ∙ blocks_at (in_turn record_blocks (n + 1)) (turn-whole (n + 1)) n (omega (arith, turn-count (n + 1), before-least plan (n + 1)))
 
   -- more records begin with the blocks of fewer
   more_same : (a b n : ℕ) → a ≤ b → n < before plan a → get_or (plan_blocks image plan b) n [] ≡ get_or (plan_blocks image plan a) n []
@@ -147,7 +117,7 @@ module _ (image plan : List ℕ) where
       by_order (yes h) = sym (more_same r (n + 1) n h l)
       by_order (no h) = more_same (n + 1) r n (omega arith) (omega (arith, before-least plan (n + 1)))
 
-  -- block n is block j of record r
+  -- THE CURSOR: block n is block j of record r
   pub block-is : (r j n : ℕ) → before plan r + j ≡ n → j < count_of plan r
       → block_at image plan n ≡ get_or (page_blocks (page_at plan r) (held image [] (page_at plan r))) j []
   unfolding record_blocks
@@ -197,89 +167,32 @@ module _ (p : Page) (bytes : List ℕ) (m : is_measured p ≡ true) (j : ℕ) (s
           ap (λ (n : ℕ). take 128 (drop n bytes)) e
       by_place (suc (suc (suc k))) l b = absurd (omega arith)
 
--- ---- the block at a cursor
+-- ---- the block at a cursor, as the code makes it: p is the record's page
 
--- block n of a record's page, with n as the code takes it
-module _ (image plan : List ℕ) (c : Cursor) (stands : Stands plan c) (n : ℕ) (is : n ≡ pick (is_measured (page_at plan c.record)) c.block 0) where
-  abbrev r : ℕ
-  r = c.record
+module _ (image plan : List ℕ) (r j : ℕ) (p : Page) (e : p ≡ page_at plan r) where
+  pub at_first : j ≡ 0 → head_block add_tag p.address ≡ get_or (page_blocks (page_at plan r) (held image [] (page_at plan r))) j []
+  at_first z = rw (z, ← e) (sym (first-block p (held image [] p)))
 
-  abbrev in_page : ℕ → ℕ → List ℕ
-  in_page i k = get_or (page_blocks (page_at plan i) (held image [] (page_at plan i))) k []
-
-  -- in one of the plan's records it is the cursor's own
-  own : r < length plan / 16 → n ≡ c.block
-  unfolding count_of
-  own h = by_mark (is_measured (page_at plan r)) is (stands.block h)
-    where
-      by_mark : (b : Bool) → n ≡ pick b c.block 0 → c.block < pick b 49 1 → n ≡ c.block
-      by_mark true e l = e
-      by_mark false e l = omega arith
-
-  -- past them it is the first
-  first : length plan / 16 ≤ r → n ≡ 0
-  unfolding zero_page
-  first h = is ∙ ap (λ (p : Page). pick (is_measured p) c.block 0) (page-past plan r h)
-
-  pub cursor-count : n < count_of plan r
-  cursor-count = by_end (dec_le (length plan / 16) r)
-    where
-      by_end : Dec (length plan / 16 ≤ r) → n < count_of plan r
-      by_end (yes h) = omega (arith, first h, count-least plan r)
-      by_end (no h) = let l : r < length plan / 16 = omega arith in omega (arith, own l, stands.block l)
-
-  -- THE CURSOR: the block with the cursor's number is block n of its record's page
-  pub cursor-block : block_at image plan (block_number plan c) ≡ in_page r n
-  unfolding block_number
-  cursor-block = by_end (dec_le (length plan / 16) r)
-    where
-      by_end : Dec (length plan / 16 ≤ r) → block_at image plan (before plan r + c.block) ≡ in_page r n
-      by_end (yes h) =
-          block-is image plan (r + c.block) 0 (before plan r + c.block) (omega (arith, before-past plan r c.block h)) (count-least plan (r + c.block))
-          ∙ ap (λ (p : Page). get_or (page_blocks p (held image [] p)) 0 []) (page-past plan (r + c.block) (omega arith) ∙ sym (page-past plan r h))
-          ∙ ap (in_page r) (sym (first h))
-      by_end (no h) =
-          let l : r < length plan / 16 = omega arith in
-          block-is image plan r c.block (before plan r + c.block) refl (stands.block l) ∙ ap (in_page r) (sym (own l))
-
--- ---- the block at a cursor, as the code makes it: p is the record's page, and n the block of it
-
-module _ (image plan : List ℕ) (c : Cursor) (stands : Stands plan c) (p : Page) (e : p ≡ page_at plan c.record) (n : ℕ)
-    (is : n ≡ pick (is_measured p) c.block 0) where
-  read : n ≡ pick (is_measured (page_at plan c.record)) c.block 0
-  read = is ∙ ap (λ (q : Page). pick (is_measured q) c.block 0) e
-
-  here : get_or (page_blocks p (held image [] p)) n [] ≡ block_at image plan (block_number plan c)
-  here =
-      ap (λ (q : Page). get_or (page_blocks q (held image [] q)) n []) e ∙ sym (cursor-block image plan c stands n read)
-
-  few : n < count_of plan c.record
-  few = cursor-count image plan c stands n read
-
-  pub below : n < 49
-  below = omega (arith, few, count_most plan c.record)
-
-  pub at_first : n ≡ 0 → head_block add_tag p.address ≡ block_at image plan (block_number plan c)
-  at_first z = sym (first-block p (held image [] p)) ∙ ap (λ (k : ℕ). get_or (page_blocks p (held image [] p)) k []) (sym z) ∙ here
-
-  module _ (some : n ≡ 0 → ⊥) where
+  module _ (some : j ≡ 0 → ⊥) (few : j < count_of plan r) where
     marked : is_measured p ≡ true
-    marked = ap is_measured e ∙ second-measured plan c.record n few (omega arith)
+    marked = rw e (second-measured plan r j few (omega arith))
+
+    below : j < 49
+    below = omega (arith, count_most plan r)
 
     -- a chunk's address, modulo 2^64
-    pub at_head : (n - 1) % 3 ≡ 0 → (a : ℕ) → a ≡ (p.address + 256 * ((n - 1) / 3)) % 2 ^ 64
-        → head_block extend_tag a ≡ block_at image plan (block_number plan c)
+    pub at_head : (j - 1) % 3 ≡ 0 → (a : ℕ) → a ≡ (p.address + 256 * ((j - 1) / 3)) % 2 ^ 64
+        → head_block extend_tag a ≡ get_or (page_blocks (page_at plan r) (held image [] (page_at plan r))) j []
     at_head z a f =
         ap (head_block extend_tag) f
-        ∙ head-wraps extend_tag (p.address + 256 * ((n - 1) / 3))
-        ∙ sym (chunk-head p (held image [] p) marked n (omega arith) below z)
-        ∙ here
+        ∙ head-wraps extend_tag (p.address + 256 * ((j - 1) / 3))
+        ∙ rw (← e) (sym (chunk-head p (held image [] p) marked j (omega arith) below z))
 
     -- a chunk's half
-    pub at-data : ((n - 1) % 3 ≡ 0 → ⊥) → (shown : List ℕ) → shown ≡ view image [] p.offset p.length p.sort
-        → take 128 (drop (256 * ((n - 1) / 3) + 128 * ((n - 1) % 3 - 1)) (content shown)) ≡ block_at image plan (block_number plan c)
+    pub at-data : ((j - 1) % 3 ≡ 0 → ⊥) → (shown : List ℕ) → shown ≡ view image [] p.offset p.length p.sort
+        → take 128 (drop (256 * ((j - 1) / 3) + 128 * ((j - 1) % 3 - 1)) (content shown))
+        ≡ get_or (page_blocks (page_at plan r) (held image [] (page_at plan r))) j []
     unfolding held
     at-data h shown f =
-        ap (λ (s : List ℕ). take 128 (drop (256 * ((n - 1) / 3) + 128 * ((n - 1) % 3 - 1)) (content s))) f
-        ∙ sym (chunk-data p (held image [] p) marked n (omega arith) below h)
-        ∙ here
+        ap (λ (s : List ℕ). take 128 (drop (256 * ((j - 1) / 3) + 128 * ((j - 1) % 3 - 1)) (content s))) f
+        ∙ rw (← e) (sym (chunk-data p (held image [] p) marked j (omega arith) below h))

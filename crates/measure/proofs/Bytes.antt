@@ -1,4 +1,4 @@
--- The bytes of a block as the code makes them: a head, and a data block with its zero tail; and a record as the code reads it.
+-- The bytes of a block as the code makes them: a head, a data block with its zero tail, and a record that the buffer's end cuts.
 -- Assumes nothing.
 use Rattle.std.proofs.Common.{◌≡◌, ℕ, zero, suc, ◌+◌, ◌-◌, ◌*◌, ◌%◌, ◌^◌, ◌<◌, ◌≤◌, min, List, [], ◌∷◌, ◌++◌, length, get_or, take, drop, replicate, sym, refl, ap, ◌∙◌, append_assoc, arith, length-append, length-drop, drop_of_length-le, length-take-le, get_or-drop, take_all, get_or-take, ext_get_or}
 use native.Mathlib.Decide.{dec_le}
@@ -9,9 +9,8 @@ use Rattle.wire.proofs.Sets.{sets_then, sets-replicate, sets-gap}
 use Rattle.wire.proofs.Digits.{length-le, le-mod}
 use Rattle.wire.proofs.Number.{number_at-one, number_at-same, get_or-zeros}
 use Rattle.plan.specs.declared.Page.{Page}
-use Rattle.plan.specs.Plan.{fields_at, page_at}
+use Rattle.plan.specs.Plan.{page_at}
 use Rattle.plan.specs.View.{content}
-use Rattle.plan.proofs.Back.{page-inside}
 use Rattle.measure.specs.Stream.{head_block}
 use Rattle.measure.proofs.Length.{content-length}
 
@@ -115,8 +114,8 @@ module _ (s : List ℕ) (at : ℕ) (inside : at + 128 ≤ 4096) where
 -- ---- a record
 
 -- a record goes by its sixteen bytes
-pub page-same : (s t : List ℕ) (i j : ℕ) → ((k : ℕ) → k < 16 → get_or s (16 * i + k) 0 ≡ get_or t (16 * j + k) 0) → fields_at s i ≡ fields_at t j
-unfolding fields_at
+pub page-same : (s t : List ℕ) (i j : ℕ) → ((k : ℕ) → k < 16 → get_or s (16 * i + k) 0 ≡ get_or t (16 * j + k) 0) → page_at s i ≡ page_at t j
+unfolding page_at
 page-same s t i j h =
     let at : (n k : ℕ) → k + n ≤ 16 → number_at n s (16 * i + k) ≡ number_at n t (16 * j + k) =
     λ n k l. number_at-same n s t (16 * i + k) (16 * j + k) (λ m b. moved n k m (omega arith)) in
@@ -131,16 +130,23 @@ page-same s t i j h =
 
 -- the fields, read one by one
 pub page-read : (b : List ℕ) (address offset size : ℕ) → address ≡ number_at 8 b 0 → offset ≡ number_at 4 b 8 → size ≡ number_at 2 b 12
-    → ◌≡◌ {A = Page} (record { address = address; offset = offset; length = size; sort = get_or b 14 0; measured = get_or b 15 0 }) (fields_at b 0)
-unfolding fields_at
+    → ◌≡◌ {A = Page} (record { address = address; offset = offset; length = size; sort = get_or b 14 0; measured = get_or b 15 0 }) (page_at b 0)
+unfolding page_at
 page-read b address offset size e f g = cc (number_at-one b 14, number_at-one b 15)
 
 -- one that lies wholly in the buffer
-pub page-whole : (plan : List ℕ) (i : ℕ) → 16 * i + 16 ≤ length plan → fields_at (take (16 * i + 16 - 16 * i) (drop (16 * i) plan)) 0 ≡ page_at plan i
-page-whole plan i h =
+pub page-whole : (plan : List ℕ) (i : ℕ) → page_at (take (16 * i + 16 - 16 * i) (drop (16 * i) plan)) 0 ≡ page_at plan i
+page-whole plan i =
     page-same (take (16 * i + 16 - 16 * i) (drop (16 * i) plan)) plan 0 i
     (λ k l. let z : 16 * 0 + k ≡ k = omega arith in
     ap (λ (n : ℕ). get_or (take (16 * i + 16 - 16 * i) (drop (16 * i) plan)) n 0) z
     ∙ get_or-take (16 * i + 16 - 16 * i) (drop (16 * i) plan) k 0 (omega arith)
     ∙ get_or-drop (16 * i) plan k 0)
-    ∙ sym (page-inside plan i h)
+
+-- and one that the buffer's end cuts, or that is past it
+pub page-cut : (plan b : List ℕ) (i first : ℕ) → first ≡ min (16 * i) (length plan)
+    → b ≡ sets (replicate 16 0) 0 (take (length plan - first) (drop first plan)) → length plan < 16 * i + 16 → page_at b 0 ≡ page_at plan i
+page-cut plan b i first f e h =
+    page-same b plan 0 i
+    (λ k l. let z : 16 * 0 + k ≡ k = omega arith in
+    ap (λ (n : ℕ). get_or b n 0) z ∙ tail_at plan b 16 (16 * i) first f e (omega arith) k)

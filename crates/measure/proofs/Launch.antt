@@ -6,19 +6,17 @@ use Rattle.verdict.proofs.Turns.{turn-same}
 use Rattle.verdict.proofs.Each.{Each, each-cons}
 use Rattle.sha384.specs.Constants.{H⁰}
 use Rattle.sha384.specs.declared.State.{State}
-use Rattle.sha384.specs.Hash.{left384, finished, sha384}
+use Rattle.sha384.specs.Hash.{finished, sha384}
 use Rattle.plan.specs.declared.Page.{Page}
 use Rattle.plan.specs.Plan.{page_bytes, plan_bytes, page_at}
 use Rattle.plan.specs.View.{content, held}
 use Rattle.plan.proofs.Shown.{view-volume}
 use Rattle.plan.proofs.Back.{Sized, page-front, page-behind}
-use Rattle.measure.specs.Stream.{is_measured, page_blocks, blocks_of, stream, block_count, plan_blocks, block_at, before, folded}
-use Rattle.measure.specs.Turn.{next_block}
+use Rattle.measure.specs.Stream.{is_measured, page_blocks, blocks_of, stream, block_count, plan_blocks, block_at, before, folded, digest_of}
 use Rattle.measure.proofs.Alike.{blocks-alike}
 use Rattle.measure.proofs.Length.{blocks-of}
 use Rattle.measure.proofs.Blocks.{plan-count, block_in}
 use Rattle.measure.proofs.Folded.{folded-same, finished-joined}
-use Rattle.measure.proofs.Run.{whole_run}
 
 -- a measured page's data is in the image: its type is 0 or 1
 abbrev pub Volume : Page → Type 0
@@ -66,11 +64,9 @@ module _ (ps : List Page) (rest : List ℕ) (z : Each Sized ps) (v : Each Volume
   plan-number =
       sym (plan-count [] (plan_bytes ps ++ rest) (length ps)) ∙ ap length (plan-blocks [] [] ps rest z v) ∙ (blocks-of [] [] ps).1
 
-  -- THE THEOREM: all blocks of the lent bytes and the padding's, from the initial hash value on, leave SHA-384 of the stream, whatever the HOB
-  -- list and the rest of the buffer are
-  pub digest-is : (image handoff : List ℕ)
-      → left384 (folded (next_block image (plan_bytes ps ++ rest) (block_count ps + 1)) H⁰ 0 (block_count ps + 1)) ≡ sha384 (stream image handoff ps)
-  unfolding stream
+  -- THE THEOREM: the digest of the lent bytes is SHA-384 of the stream, whatever the HOB list and the rest of the buffer are
+  pub digest-is : (image handoff : List ℕ) → digest_of image (plan_bytes ps ++ rest) (block_count ps) ≡ sha384 (stream image handoff ps)
+  unfolding digest_of stream
   digest-is image handoff =
       let plan : List ℕ = plan_bytes ps ++ rest in
       let bs : List (List ℕ) = blocks_of image handoff ps in
@@ -78,7 +74,6 @@ module _ (ps : List Page) (rest : List ℕ) (z : Each Sized ps) (v : Each Volume
       let each : (i : ℕ) → i < length bs → block_at image plan i ≡ get_or bs i [] =
       λ i l. sym (block_in image plan (length ps) i (omega (arith, plan-number)))
       ∙ ap (λ (b : List (List ℕ)). get_or b i []) (plan-blocks image handoff ps rest z v) in
-      ap (λ (q : ℕ). left384 (folded (next_block image plan (q + 1)) H⁰ 0 (q + 1))) (sym count)
-      ∙ whole_run image plan (length bs)
+      ap (λ (q : ℕ). finished (folded (block_at image plan) H⁰ 0 q) [] (128 * q)) (sym count)
       ∙ ap (λ (s : State). finished s [] (128 * length bs)) (folded-same (block_at image plan) (λ i. get_or bs i []) H⁰ (length bs) each)
       ∙ finished-joined bs (blocks-of image handoff ps).0

@@ -5,7 +5,8 @@ use Rattle.wire.specs.Number.{le}
 use Rattle.verdict.specs.Turns.{in_turn}
 use Rattle.verdict.specs.Rules.{pick}
 use Rattle.sha384.specs.declared.State.{State}
-use Rattle.sha384.specs.Hash.{compressed}
+use Rattle.sha384.specs.Constants.{H⁰}
+use Rattle.sha384.specs.Hash.{compressed, finished}
 use Rattle.plan.specs.declared.Page.{Page}
 use Rattle.plan.specs.Plan.{page_at}
 use Rattle.plan.specs.View.{held}
@@ -84,9 +85,13 @@ unfoldable pub before : List ℕ → ℕ → ℕ
 before plan zero = 0
 before plan (suc r) = before plan r + count_of plan r
 
--- ---- hashing by blocks
+-- ---- the digest by blocks
 
 -- the hash value after q blocks, from block n on
 unfoldable pub folded : (ℕ → List ℕ) → State → ℕ → ℕ → State
 folded block s n zero = s
 folded block s n (suc q) = compressed (folded block s n q) (block (n + q))
+
+-- SHA-384 of the first q blocks of what is lent: they are whole, so that FIPS 180-4's padding is one further block
+unfoldable pub digest_of : List ℕ → List ℕ → ℕ → List ℕ
+digest_of image plan q = finished (folded (block_at image plan) H⁰ 0 q) [] (128 * q)

@@ -1,12 +1,10 @@
 -- A plan's records read back: page i of the bytes is page i of the plan, and the pages of sections that fit have fields that fit.
 -- Assumes nothing.
-use mathlib.Core.Path.{◌≡◌, refl, sym, ◌∙◌}
+use mathlib.Core.Path.{◌≡◌, refl, ◌∙◌}
 use mathlib.Core.List.{List, [], ◌∷◌, ◌++◌, append_assoc, Memᴰ}
 use Prim.Native.Nat.{ℕ, zero, suc, ◌+◌, ◌*◌, ◌^◌, ◌≤◌, ◌<◌}
-use native.Mathlib.Decide.{dec_le}
 use native.Mathlib.Omega.{arith}
-use borrow.Author.Tests.{le-leb, lt-leb}
-use lib.ListN.{length, get_or, length-append}
+use lib.ListN.{length, get_or}
 use Rattle.wire.specs.Number.{le, number_at}
 use Rattle.wire.proofs.Digits.{length-le}
 use Rattle.wire.proofs.Number.{number_at-seam}
@@ -17,7 +15,7 @@ use Rattle.tdvf.specs.declared.Section.{Section}
 use Rattle.tdvf.specs.Section.{page_count, pages_in_all}
 use Rattle.plan.specs.declared.Page.{Page}
 use Rattle.plan.specs.declared.Source.{Source}
-use Rattle.plan.specs.Plan.{Fits, source_of, page_of, pages_of, pages, page_bytes, plan_bytes, fields_at, zero_page, page_at}
+use Rattle.plan.specs.Plan.{Fits, source_of, page_of, pages_of, pages, page_bytes, plan_bytes, page_at}
 use Rattle.plan.proofs.Records.{length-page, length-pages}
 use Rattle.plan.proofs.Share.{source-end, length_most, offset-below}
 
@@ -29,24 +27,14 @@ pub record Sized (p : Page) : Type 0 where
   pub sort : p.sort < 256
   pub measured : p.measured < 256
 
--- ---- a record that lies wholly in the buffer, and one that does not
-
-pub page-inside : (plan : List ℕ) (i : ℕ) → 16 * i + 16 ≤ length plan → page_at plan i ≡ fields_at plan i
-unfolding page_at
-page-inside plan i h = rw (le-leb (16 * i + 16) (length plan) h)
-
-pub page-outside : (plan : List ℕ) (i : ℕ) → length plan < 16 * i + 16 → page_at plan i ≡ zero_page
-unfolding page_at
-page-outside plan i h = rw (lt-leb (16 * i + 16) (length plan) h)
-
 module _ (p : Page) (rest : List ℕ) where
   fields : page_bytes p ++ rest ≡ le 8 p.address ++ (le 4 p.offset ++ (le 2 p.length ++ (le 1 p.sort ++ (le 1 p.measured ++ rest))))
   unfolding page_bytes
   fields = simp append_assoc
 
-  fields-front : Sized p → fields_at (page_bytes p ++ rest) 0 ≡ p
-  unfolding fields_at
-  fields-front h =
+  pub page-front : Sized p → page_at (page_bytes p ++ rest) 0 ≡ p
+  unfolding page_at
+  page-front h =
       let r₄ : List ℕ = le 1 p.measured ++ rest in
       let r₃ : List ℕ = le 1 p.sort ++ r₄ in
       let r₂ : List ℕ = le 2 p.length ++ r₃ in
@@ -64,28 +52,15 @@ module _ (p : Page) (rest : List ℕ) where
       skip 1 7 15 (omega arith) ∙ skip₁ 1 3 7 (omega arith) ∙ skip₂ 1 1 3 (omega arith) ∙ skip₃ ∙ number_at-front 1 p.measured rest h.measured in
       rw (fields, a, o, l, s, m)
 
-  fields-behind : (i : ℕ) → fields_at (page_bytes p ++ rest) (suc i) ≡ fields_at rest i
-  unfolding fields_at
-  fields-behind i =
+  -- the records behind the first
+  pub page-behind : (i : ℕ) → page_at (page_bytes p ++ rest) (suc i) ≡ page_at rest i
+  unfolding page_at
+  page-behind i =
       let at : (n k : ℕ) → number_at n (page_bytes p ++ rest) (16 * suc i + k) ≡ number_at n rest (16 * i + k) =
       λ n k. number_at-seam n (page_bytes p) rest (16 * i + k) (16 * suc i + k) (omega (arith, length-page p)) in
       let first : number_at 8 (page_bytes p ++ rest) (16 * suc i) ≡ number_at 8 rest (16 * i) =
       number_at-seam 8 (page_bytes p) rest (16 * i) (16 * suc i) (omega (arith, length-page p)) in
       rw (first, at 4 8, at 2 12, at 1 14, at 1 15)
-
-  long : length (page_bytes p ++ rest) ≡ 16 + length rest
-  long = length-append (page_bytes p) rest ∙ omega (arith, length-page p)
-
-  pub page-front : Sized p → page_at (page_bytes p ++ rest) 0 ≡ p
-  page-front h = page-inside (page_bytes p ++ rest) 0 (omega (arith, long)) ∙ fields-front h
-
-  -- the records behind the first
-  pub page-behind : (i : ℕ) → page_at (page_bytes p ++ rest) (suc i) ≡ page_at rest i
-  page-behind i = by_end (dec_le (16 * i + 16) (length rest))
-    where
-      by_end : Dec (16 * i + 16 ≤ length rest) → page_at (page_bytes p ++ rest) (suc i) ≡ page_at rest i
-      by_end (yes h) = page-inside (page_bytes p ++ rest) (suc i) (omega (arith, long)) ∙ fields-behind i ∙ sym (page-inside rest i h)
-      by_end (no h) = page-outside (page_bytes p ++ rest) (suc i) (omega (arith, long)) ∙ sym (page-outside rest i (omega arith))
 
 -- THE THEOREM: a plan's bytes, whatever follows them, hold the plan's pages
 pub read_back : (ps : List Page) (rest : List ℕ) (i : ℕ) (d : Page) → i < length ps → Sized (get_or ps i d) → page_at (plan_bytes ps ++ rest) i ≡ get_or ps i d

@@ -1,6 +1,6 @@
 -- Page 01, "The plan": one record for each page, sections in table order, pages ascending.
 -- Assumes nothing.
-use Rattle.std.specs.Prelude.{List, [], ◌∷◌, ◌++◌, ℕ, zero, suc, ◌+◌, ◌-◌, ◌*◌, ◌^◌, ◌≤◌, min, leb, eqb, length}
+use Rattle.std.specs.Prelude.{List, [], ◌∷◌, ◌++◌, ℕ, zero, suc, ◌+◌, ◌-◌, ◌*◌, ◌^◌, ◌≤◌, min, eqb}
 use Rattle.wire.specs.Number.{le, number_at}
 use Rattle.verdict.specs.Turns.{up_to}
 use Rattle.verdict.specs.Rules.{pick}
@@ -69,9 +69,9 @@ unfoldable pub plan_bytes : List Page → List ℕ
 plan_bytes [] = []
 plan_bytes (p ∷ ps) = page_bytes p ++ plan_bytes ps
 
--- the fields of the 16 bytes of record i
-unfoldable pub fields_at : List ℕ → ℕ → Page
-fields_at plan i =
+-- the record of page i of a plan's bytes; "records past the buffer's end read as zeros"
+unfoldable pub page_at : List ℕ → ℕ → Page
+page_at plan i =
     record {
       address = number_at 8 plan (16 * i);
       offset = number_at 4 plan (16 * i + 8);
@@ -79,11 +79,3 @@ fields_at plan i =
       sort = number_at 1 plan (16 * i + 14);
       measured = number_at 1 plan (16 * i + 15);
     }
-
--- a record of 16 zeros
-unfoldable pub zero_page : Page
-zero_page = record { address = 0; offset = 0; length = 0; sort = 0; measured = 0 }
-
--- page i of a plan's bytes: "records past the buffer's end read as zeros", and a record that the end cuts off is one of them
-unfoldable pub page_at : List ℕ → ℕ → Page
-page_at plan i = pick (leb (16 * i + 16) (length plan)) (fields_at plan i) zero_page

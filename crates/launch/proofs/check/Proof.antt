@@ -12,7 +12,7 @@ use Rattle.verdict.specs.Rules.{judge}
 use Rattle.memory.specs.Map.{map_rules}
 use Rattle.tdvf.specs.Image.{fields_of, descriptor_rules, located}
 use Rattle.tdvf.proofs.Descriptor.{fields-length}
-use Rattle.verdict.proofs.Else.{not-nothing}
+use Rattle.tdvf.proofs.Else.{not-nothing}
 use Rattle.launch.specs.Rules.{first_rules}
 use Rattle.launch.specs.Host.{Host, host_with}
 use Rattle.launch.specs.declared.Checked.TheVariants.{Refused}

@@ -1,7 +1,7 @@
 -- `launch::lay_out` meets its contract: the sections' rules, then the last ones by what was counted, then the layout. Assumes nothing.
 use mathlib.Core.Path.{sym, ap, ◌∙◌}
 use borrow.Author.Rules.{rules}
-use Rattle.verdict.proofs.Else.{not-nothing}
+use Rattle.tdvf.proofs.Else.{not-nothing}
 use Rattle.launch.specs.Stages.{fields_with}
 use Rattle.launch.specs.Host.{host_with}
 use Rattle.launch.specs.declared.Checked.TheVariants.{Refused, Accepted}

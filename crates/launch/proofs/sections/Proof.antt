@@ -9,7 +9,7 @@ use borrow.Author.Rules.{rules}
 use Rattle.verdict.proofs.Rules.{turns-none, turns_next}
 use Rattle.tdvf.specs.declared.Section.{Section}
 use Rattle.tdvf.specs.Section.{shares, shared_broken}
-use Rattle.verdict.proofs.Else.{not-nothing}
+use Rattle.tdvf.proofs.Else.{not-nothing}
 use Rattle.verdict.specs.declared.Refusal.TheVariants.{Nothing}
 use Rattle.verdict.specs.Turns.{in_turn, up_to}
 use Rattle.verdict.specs.Rules.{judge}
