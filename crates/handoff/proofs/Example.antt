@@ -1,12 +1,11 @@
 -- The definitions of the hand-off list computed. Assumes nothing.
 use mathlib.Core.Path.{◌≡◌, refl}
-use mathlib.Core.List.{List, [], ◌∷◌, ◌++◌}
+use mathlib.Core.List.{[], ◌∷◌}
 use Prim.Native.Nat.{ℕ}
 use lib.ListN as list
 use Rattle.wire.specs.Number.{le, number_at}
 use Rattle.memory.specs.declared.Record.{Record}
 use Rattle.tdvf.specs.declared.Section.{Section}
-use Rattle.handoff.specs.declared.Piece.{Piece}
 use Rattle.handoff.specs.Pieces.{section_piece, run_piece, lower_of, next_of, piece_at, cut, pieces_of, pieces}
 use Rattle.handoff.specs.List.{first_block, piece_block, last_block, piece_blocks, list_length, list_bytes}
 

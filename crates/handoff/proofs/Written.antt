@@ -2,7 +2,7 @@
 -- records in order, and the list. Assumes nothing.
 use mathlib.Core.Path.{◌≡◌, refl, sym, ap, ap₂, ◌∙◌}
 use mathlib.Core.List.{List, [], ◌∷◌, ◌++◌, append_assoc, append-nil}
-use Prim.Native.Nat.{ℕ, zero, ◌+◌, ◌-◌, ◌*◌, ◌≤◌, ◌<◌, min}
+use Prim.Native.Nat.{ℕ, ◌+◌, ◌-◌, ◌*◌, ◌≤◌, ◌<◌, min}
 use native.Mathlib.Omega.{arith}
 use lib.ListN.{length, length-append}
 use lib.Seq.{sets}
@@ -12,7 +12,7 @@ use Rattle.wire.proofs.Sets.{sets_then}
 use Rattle.verdict.specs.Turns.{up_to}
 use Rattle.verdict.proofs.Turns.{up_to-none, up_to-more, turn-split, length-up_to}
 use Rattle.memory.specs.declared.Record.{Record}
-use Rattle.memory.specs.Map.{records, end}
+use Rattle.memory.specs.Map.{end}
 use Rattle.tdvf.specs.declared.Section.{Section}
 use Rattle.handoff.specs.declared.Piece.{Piece}
 use Rattle.handoff.specs.Pieces.{mapped_piece, piece_at, cut, pieces_of, pieces}

@@ -1,6 +1,6 @@
 -- Page 01, "The HOB list": the pieces that the map's records are cut into.
 -- Assumes nothing.
-use Rattle.std.specs.Prelude.{Bool, ◌&&◌, List, [], ◌∷◌, ◌++◌, ℕ, zero, suc, ◌+◌, ◌-◌, ◌*◌, ◌^◌, ◌≤◌, ◌<◌, leb, ltb, eqb}
+use Rattle.std.specs.Prelude.{◌&&◌, List, [], ◌∷◌, ◌++◌, ℕ, zero, suc, ◌+◌, ◌-◌, ◌*◌, ◌^◌, ◌≤◌, ◌<◌, leb, ltb, eqb}
 use Rattle.std.proofs.Math.ListN as list
 use Rattle.verdict.specs.Rules.{pick}
 use Rattle.memory.specs.declared.Record.{Record}

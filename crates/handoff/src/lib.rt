@@ -1,4 +1,7 @@
 // The hand-off block (HOB) list: what the guest is told of its memory.
+
+#![tactic(auto)]
+
 mod write;
 
 ghost use Rattle.std.specs.Prelude.{◌≡◌, ◌+◌, ◌*◌, ◌^◌, ◌≤◌, ◌<◌, min};
@@ -13,7 +16,7 @@ use tdvf::{Section, section_at};
 pub use write::write_list;
 
 // A piece of the memory map that the list names.
-#[derive(Drop)]
+#[derive(Clone, Copy)]
 pub struct Piece {
     // 0 memory that is there, 1 memory-mapped input and output, 7 memory that is not accepted yet.
     pub resource: u32,
@@ -23,7 +26,7 @@ pub struct Piece {
 }
 
 // The section with the lowest start at some address or above.
-#[derive(Drop)]
+#[derive(Clone, Copy)]
 pub struct Next {
     // Its start, or the end of the record that is cut where there is none below that.
     pub start: u64,
@@ -116,8 +119,8 @@ fn count_cut(descriptor: &[u8], count: usize, start: u64, top: u64) -> usize
 
 // How many pieces a record gives, by its kind: RAM is cut, firmware gives none, and MMIO is one piece.
 fn record_pieces(descriptor: &[u8], count: usize, r: Record) -> usize
-    requires count_bound { (count ≤ 32) × (16 + 32 * count ≤ list.length descriptor.now) }
-    requires r_bound { end r < 2 ^ 64 }
+    requires whole_table { (count ≤ 32) × (16 + 32 * count ≤ list.length descriptor.now) }
+    requires fits { end r < 2 ^ 64 }
     ensures { result ≡ list.length (pieces_of (up_to (section_at descriptor.now) count) r) }
 {
     let kind = r.kind;
@@ -131,7 +134,7 @@ fn record_pieces(descriptor: &[u8], count: usize, r: Record) -> usize
 
 // How many pieces the map gives, for `count` sections of the descriptor.
 pub fn count_pieces(descriptor: &[u8], count: usize, map: &[u8]) -> usize
-    requires count_bound { (count ≤ 32) × (16 + 32 * count ≤ list.length descriptor.now) }
+    requires whole_table { (count ≤ 32) × (16 + 32 * count ≤ list.length descriptor.now) }
     requires ends_fit { EndsFit map.now }
     ensures { result ≡ list.length (pieces (up_to (section_at descriptor.now) count) (records map.now)) }
 {

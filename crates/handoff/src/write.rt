@@ -65,13 +65,13 @@ fn put_cut(
     start: u64,
     top: u64,
 ) -> usize
-    requires count_bound { (count ≤ 32) × (16 + 32 * count ≤ list.length descriptor.now) }
-    requires top_bound { at + 48 * list.length (cut (2 * count + 1) (up_to (section_at descriptor.now) count) start top)
+    requires whole_table { (count ≤ 32) × (16 + 32 * count ≤ list.length descriptor.now) }
+    requires room { at + 48 * list.length (cut (2 * count + 1) (up_to (section_at descriptor.now) count) start top)
         ≤ list.length buffer.old }
-    ensures buffer_after { buffer.new
+    ensures written { buffer.new
         ≡ sets buffer.old at
         (piece_blocks (cut (2 * count + 1) (up_to (section_at descriptor.now) count) start top)) }
-    ensures value { result ≡ at + 48 * list.length (cut (2 * count + 1) (up_to (section_at descriptor.now) count) start top) }
+    ensures next_place { result ≡ at + 48 * list.length (cut (2 * count + 1) (up_to (section_at descriptor.now) count) start top) }
 {
     let mut next = at;
     let mut from = start;
@@ -92,13 +92,13 @@ fn put_cut(
 // The blocks of a record's pieces, by its kind: RAM is cut, firmware gives none, and MMIO is one piece. Answers the place
 // behind them.
 fn put_record(buffer: &mut [u8], at: usize, descriptor: &[u8], count: usize, r: Record) -> usize
-    requires count_bound { (count ≤ 32) × (16 + 32 * count ≤ list.length descriptor.now) }
-    requires r_bound { end r < 2 ^ 64 }
-    requires r_bound_2 { at + 48 * list.length (pieces_of (up_to (section_at descriptor.now) count) r) ≤ list.length buffer.old }
-    ensures buffer_after { buffer.new
+    requires whole_table { (count ≤ 32) × (16 + 32 * count ≤ list.length descriptor.now) }
+    requires fits { end r < 2 ^ 64 }
+    requires room { at + 48 * list.length (pieces_of (up_to (section_at descriptor.now) count) r) ≤ list.length buffer.old }
+    ensures written { buffer.new
         ≡ sets buffer.old at
         (piece_blocks (pieces_of (up_to (section_at descriptor.now) count) r)) }
-    ensures value { result ≡ at + 48 * list.length (pieces_of (up_to (section_at descriptor.now) count) r) }
+    ensures next_place { result ≡ at + 48 * list.length (pieces_of (up_to (section_at descriptor.now) count) r) }
 {
     let kind = r.kind;
     match kind {
@@ -120,14 +120,14 @@ fn put_record(buffer: &mut [u8], at: usize, descriptor: &[u8], count: usize, r: 
 
 // The blocks of the map's pieces, record by record; answers the place behind them.
 fn put_pieces(buffer: &mut [u8], at: usize, descriptor: &[u8], count: usize, map: &[u8]) -> usize
-    requires count_bound { (count ≤ 32) × (16 + 32 * count ≤ list.length descriptor.now) }
+    requires whole_table { (count ≤ 32) × (16 + 32 * count ≤ list.length descriptor.now) }
     requires ends_fit { EndsFit map.now }
-    requires map_bound { at + 48 * list.length (pieces (up_to (section_at descriptor.now) count) (records map.now))
+    requires room { at + 48 * list.length (pieces (up_to (section_at descriptor.now) count) (records map.now))
         ≤ list.length buffer.old }
-    ensures buffer_after { buffer.new
+    ensures written { buffer.new
         ≡ sets buffer.old at
         (piece_blocks (pieces (up_to (section_at descriptor.now) count) (records map.now))) }
-    ensures value { result
+    ensures next_place { result
         ≡ at + 48 * list.length (pieces (up_to (section_at descriptor.now) count) (records map.now)) }
 {
     let mut next = at;
@@ -150,14 +150,14 @@ pub fn write_list(
     address: u64,
     length: u64,
 ) -> usize
-    requires count_bound { (count ≤ 32) × (16 + 32 * count ≤ list.length descriptor.now) }
+    requires whole_table { (count ≤ 32) × (16 + 32 * count ≤ list.length descriptor.now) }
     requires ends_fit { EndsFit map.now }
-    requires length_len { length ≡ list_length (pieces (up_to (section_at descriptor.now) count) (records map.now)) }
-    requires length_len_bound { (length ≤ list.length buffer.old) × (address + length < 2 ^ 64) }
-    ensures buffer_after { buffer.new
+    requires whole_list { length ≡ list_length (pieces (up_to (section_at descriptor.now) count) (records map.now)) }
+    requires room { (length ≤ list.length buffer.old) × (address + length < 2 ^ 64) }
+    ensures written { buffer.new
         ≡ sets buffer.old 0
         (list_bytes address (pieces (up_to (section_at descriptor.now) count) (records map.now))) }
-    ensures value { result ≡ length }
+    ensures next_place { result ≡ length }
 {
     put_first(buffer, address + length);
     let next = put_pieces(buffer, 56, descriptor, count, map);

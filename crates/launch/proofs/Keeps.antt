@@ -1,7 +1,7 @@
 -- Acceptance, taken apart once: what follows from it, by name. Assumes nothing.
 use mathlib.Core.Path.{◌≡◌, ◌∙◌}
 use mathlib.Core.List.{List, ◌++◌}
-use Prim.Native.Nat.{ℕ, ◌+◌, ◌<◌}
+use Prim.Native.Nat.{ℕ, ◌<◌}
 use Rattle.verdict.specs.declared.Refusal.TheVariants.{Nothing}
 use Rattle.verdict.specs.Turns.{in_turn}
 use Rattle.verdict.specs.Rules.{Rule, judge}

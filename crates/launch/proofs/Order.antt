@@ -14,7 +14,7 @@ use Rattle.verdict.specs.Rules.{judge}
 use Rattle.verdict.specs.Turns.{up_to}
 use Rattle.memory.specs.declared.Fault.{Fault}
 use Rattle.memory.specs.declared.Fault.TheVariants as fault
-use Rattle.memory.specs.Map.{width_allowed, record_at, end, map_tried, first_fault, fault_refusal, map_rules}
+use Rattle.memory.specs.Map.{width_allowed, record_at, map_tried, first_fault, fault_refusal, map_rules}
 use Rattle.memory.proofs.First.{map-judged}
 use Rattle.memory.proofs.Broken.{top-low}
 use Rattle.memory.proofs.Kept.{kept_map}

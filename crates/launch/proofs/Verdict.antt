@@ -3,7 +3,7 @@ use mathlib.Core.Path.{◌≡◌}
 use mathlib.Core.Bool.{true}
 use mathlib.Core.List.{List}
 use mathlib.Core.Logic.{◌↔◌}
-use Prim.Native.Nat.{ℕ, ◌≤◌}
+use Prim.Native.Nat.{ℕ}
 use lib.Dec.{lit≤}
 use borrow.Author.Tests.{eqb-true, eq-eqb}
 use Rattle.verdict.specs.declared.Refusal.TheVariants.{Nothing}

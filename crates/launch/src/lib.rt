@@ -1,4 +1,7 @@
 // The launch: the rules in the page's order, and what it answers.
+
+#![tactic(auto)]
+
 ghost use Rattle.std.specs.Prelude.{◌≡◌, [], ◌+◌, ◌*◌, ◌≤◌};
 ghost use Rattle.std.proofs.Math.ListN as list;
 ghost use Rattle.std.proofs.lemmas.List.Edits.{sets};
@@ -22,7 +25,7 @@ use verdict::{Place, Refusal};
 use wire::clear;
 
 // What a launch answers. A refused one has counts of 0 and a measurement of zeros.
-#[derive(Drop)]
+#[derive(Clone, Copy)]
 pub struct Answer {
     // The first broken rule and its place, or nothing.
     pub refusal: Refusal,
@@ -36,7 +39,7 @@ pub struct Answer {
 }
 
 // What the checks answer.
-#[derive(Drop)]
+#[derive(Clone, Copy)]
 pub enum Checked {
     // The first broken rule.
     Refused(Refusal),
@@ -45,7 +48,7 @@ pub enum Checked {
 }
 
 // An accepted launch: what its image and its host come to.
-#[derive(Drop)]
+#[derive(Clone, Copy)]
 pub struct Layout {
     // Where the descriptor starts, and how many sections it has.
     pub offset: usize,
@@ -162,8 +165,8 @@ fn last(totals: Totals, list: u64) -> Refusal
 
 // Rules 9 to 19, of what stands from the descriptor on, and what the writers need where none of them is broken.
 fn lay_out(descriptor: &[u8], offset: usize, count: usize, length: usize, map: &[u8]) -> Checked
-    requires count_bound { (count ≤ 32) × (16 + 32 * count ≤ list.length descriptor.now) }
-    requires count_value { count ≡ section_count descriptor.now }
+    requires whole_table { (count ≤ 32) × (16 + 32 * count ≤ list.length descriptor.now) }
+    requires counted_all { count ≡ section_count descriptor.now }
     requires ends_fit { EndsFit map.now }
     ensures { result ≡ laid_out (host_with map.now 0 0 0) (fields_with length offset descriptor.now) }
 {
@@ -231,7 +234,7 @@ fn refused_answer(refusal: Refusal) -> Answer
 // Fills both buffers for a launch that breaks no rule, and measures what the plan loads.
 fn fill(image: &[u8], map: &[u8], layout: Layout, plan: &mut [u8], handoff: &mut [u8]) -> Answer
     requires { Sound image.now map.now layout (list.length plan.old) (list.length handoff.old) }
-    ensures value { result ≡ accepted_answer (host_with map.now 0 0 0) image.now }
+    ensures answered { result ≡ accepted_answer (host_with map.now 0 0 0) image.now }
     ensures plan_after { plan.new ≡ sets plan.old 0 (plan_bytes (page_list (host_with map.now 0 0 0) (fields_of image.now))) }
     ensures handoff_after { handoff.new ≡ sets handoff.old 0 (handoff_list (host_with map.now 0 0 0) (fields_of image.now)) }
 {
@@ -260,7 +263,7 @@ fn fill(image: &[u8], map: &[u8], layout: Layout, plan: &mut [u8], handoff: &mut
 
 // The launch. Both buffers are cleared first, on every path, so that no older plan can survive in them.
 pub fn launch(image: &[u8], map: &[u8], width: u32, plan: &mut [u8], handoff: &mut [u8]) -> Answer
-    ensures value { result ≡ answer (host_with map.now width (list.length plan.old) (list.length handoff.old)) image.now }
+    ensures answered { result ≡ answer (host_with map.now width (list.length plan.old) (list.length handoff.old)) image.now }
     ensures plan_after { plan.new ≡ plan_after (host_with map.now width (list.length plan.old) (list.length handoff.old)) image.now }
     ensures handoff_after { handoff.new ≡ handoff_after (host_with map.now width (list.length plan.old) (list.length handoff.old)) image.now }
 {

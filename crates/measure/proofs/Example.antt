@@ -1,11 +1,11 @@
 -- The definitions of the stream computed, at the places where an error looks right. Assumes nothing.
-use Rattle.std.proofs.Common.{◌≡◌, ℕ, List, [], ◌∷◌, ◌++◌, length, get_or, replicate, refl}
+use Rattle.std.proofs.Common.{◌≡◌, ℕ, List, [], ◌∷◌, ◌++◌, length, replicate, refl}
 use Rattle.wire.specs.Number.{le, number_at}
 use Rattle.verdict.specs.Turns.{in_turn}
 use Rattle.plan.specs.declared.Page.{Page}
 use Rattle.plan.specs.Plan.{page_bytes, plan_bytes, page_at}
 use Rattle.plan.specs.View.{slice_of, part, view, content, held}
-use Rattle.measure.specs.Stream.{add_tag, extend_tag, head_block, chunk_blocks, extend_blocks, page_blocks, blocks_of, plan_blocks, block_at, measured_pages, block_count}
+use Rattle.measure.specs.Stream.{add_tag, extend_tag, head_block, chunk_blocks, extend_blocks, page_blocks, blocks_of, plan_blocks, block_at}
 
 -- two pages, the first measured with one byte of data, and the second added
 pub two : List Page

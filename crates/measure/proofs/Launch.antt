@@ -1,6 +1,6 @@
 -- The theorem for the launch: where a plan is written from pages that fit, and what is measured has its data in the image, the
 -- digest of the lent bytes is SHA-384 of the pages' stream. Assumes nothing.
-use Rattle.std.proofs.Common.{◌≡◌, ℕ, zero, suc, ◌+◌, ◌*◌, ◌<◌, true, List, [], ◌∷◌, ◌++◌, length, get_or, sym, refl, ap, ◌∙◌, ap₂, append_assoc, append-nil, arith}
+use Rattle.std.proofs.Common.{◌≡◌, ℕ, zero, suc, ◌*◌, ◌<◌, true, List, [], ◌∷◌, ◌++◌, length, get_or, sym, refl, ap, ◌∙◌, ap₂, append_assoc, append-nil, arith}
 use Rattle.verdict.specs.Turns.{in_turn}
 use Rattle.verdict.proofs.Turns.{turn-same}
 use Rattle.verdict.proofs.Each.{Each, each-cons}

@@ -1,6 +1,6 @@
 -- Page 01, "The measured stream": by pages, and by blocks of 128 bytes of what a plan and an image hold.
 -- Assumes nothing.
-use Rattle.std.specs.Prelude.{ℕ, zero, suc, ◌+◌, ◌*◌, ◌/◌, Bool, true, false, List, [], ◌∷◌, ◌++◌, length, take, drop, replicate, ◌==◌, slice_index_or}
+use Rattle.std.specs.Prelude.{ℕ, zero, suc, ◌+◌, ◌*◌, Bool, List, [], ◌∷◌, ◌++◌, length, take, drop, replicate, ◌==◌, slice_index_or}
 use Rattle.wire.specs.Number.{le}
 use Rattle.verdict.specs.Turns.{in_turn}
 use Rattle.verdict.specs.Rules.{pick}

@@ -2,6 +2,9 @@
 //
 // A lent plan's bytes say which blocks there are, so the stream is never formed: a cursor names a record and a block of its
 // page, and each block is hashed as it is reached. Whoever measures in turns keeps the hash value between them.
+
+#![tactic(auto)]
+
 ghost use Rattle.std.specs.Prelude.{◌≡◌, ◌+◌, ◌*◌, ◌^◌, ◌<◌, ◌≤◌, min, [], length, take, drop, slice_index_or};
 ghost use Rattle.sha384.specs.Constants.{K};
 ghost use Rattle.sha384.specs.Hash.{compressed};
@@ -14,7 +17,7 @@ use sha384::State;
 use std::num::wrapping_add_u64;
 
 // Where a block stands: block `block` of the page of record `record`.
-#[derive(Drop)]
+#[derive(Clone, Copy)]
 pub struct Cursor {
     pub record: usize,
     pub block: usize,
@@ -129,8 +132,8 @@ fn head(tag: &[u8], address: u64) -> [u8; 128]
 // The hash value after the block at `at` of a page that shows `shown`. A block that lies wholly in it is hashed where it
 // stands; only one with a zero tail is built.
 fn data(state: State, shown: &[u8], at: usize, table: &[u64; 80]) -> State
-    requires at_bound { at + 128 ≤ 4096 }
-    requires table_value { table.now ≡ K }
+    requires within_page { at + 128 ≤ 4096 }
+    requires constants { table.now ≡ K }
     ensures { result ≡ compressed state (take 128 (drop at (content shown.now))) }
 {
     let end = at + 128;
@@ -146,8 +149,8 @@ fn data(state: State, shown: &[u8], at: usize, table: &[u64; 80]) -> State
 // The hash value after the block at a cursor. No HOB list is lent: what is measured is in the image. A lent plan's address may
 // be so high that a chunk's passes 2^64: it is taken modulo 2^64, as its eight bytes are.
 fn absorb_block(state: State, image: &[u8], plan: &[u8], c: Cursor, table: &[u64; 80]) -> State
-    requires record_bound { (c.record < 2 ^ 59) × (c.block < count_of plan.now c.record) }
-    requires table_value { table.now ≡ K }
+    requires stands { (c.record < 2 ^ 59) × (c.block < count_of plan.now c.record) }
+    requires constants { table.now ≡ K }
     ensures { result ≡ compressed state (slice_index_or (page_blocks (page_at plan.now c.record)
         (held image.now [] (page_at plan.now c.record))) c.block []) }
 {
@@ -177,8 +180,8 @@ pub fn absorb(
     blocks: u64,
     table: &[u64; 80],
 ) -> State
-    requires blocks_bound { from + blocks ≤ 2 ^ 32 }
-    requires table_value { table.now ≡ K }
+    requires few_blocks { from + blocks ≤ 2 ^ 32 }
+    requires constants { table.now ≡ K }
     ensures { result ≡ folded (block_at image.now plan.now) state from blocks }
 {
     let mut value = state;

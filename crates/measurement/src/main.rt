@@ -2,39 +2,42 @@
 // the refusal's line. An image above 65,536 bytes prints `too long` and nothing else.
 //
 // `main` reads, calls and writes; each line is made by a function of `text`, whose contract says which it is.
+
+#![tactic(auto)]
+
 use files::{print_line, print_refusal, read_file};
 use launch::Answer;
-use libc::STDOUT_FILENO;
+use std::io;
+use std::io::Write;
 use verdict::Refusal;
 
-fn print_measurement(measurement: &[u8; 48]) {
+fn print_measurement<R: Print>(rt: &R, measurement: &[u8; 48]) -> io::Result<()> {
     let mut line = [0u8; 97];
     let count = text::put_measurement(&mut line, measurement);
-    print_line(&line, count);
+    print_line(rt, &line, count)
 }
 
-fn print_answer(answer: Answer) {
+fn print_answer<R: Print>(rt: &R, answer: Answer) -> io::Result<()> {
     let refusal = answer.refusal;
     let Refusal::Nothing = refusal else {
-        print_refusal(refusal);
-        return;
+        return print_refusal(rt, refusal);
     };
     let measurement = answer.measurement;
-    print_measurement(&measurement);
+    print_measurement(rt, &measurement)
 }
 
 // The image's buffer has a byte more than an image may have, so that one too long is seen. A map of 64 records has 1,536 bytes,
 // and one that the map's buffer cuts short has too many records either way.
-fn main() {
+fn main(rt: HostRuntime) -> io::Result<()> {
     let mut image = [0u8; 65537];
-    let length = read_file(b"image.bin", &mut image);
+    let length = read_file(&rt, b"image.bin", &mut image);
     if 65536 < length {
-        io::write_all(STDOUT_FILENO, b"too long\n");
-        return;
+        return io::writer(&rt).write_all(b"too long\n");
     }
     let mut map = [0u8; 4096];
-    let size = read_file(b"map.bin", &mut map);
+    let size = read_file(&rt, b"map.bin", &mut map);
     let mut plan = [0u8; 65536];
     let mut handoff = [0u8; 8192];
-    print_answer(launch::launch(&image[..length], &map[..size], 48, &mut plan, &mut handoff));
+    let answer = launch::launch(&image[..length], &map[..size], 48, &mut plan, &mut handoff);
+    print_answer(&rt, answer)
 }

@@ -7,14 +7,12 @@ use mathlib.Core.Logic.{◌⊎◌, inl, inr}
 use Prim.Native.Nat.{ℕ, zero, suc, ◌+◌, ◌-◌, ◌<◌}
 use native.Mathlib.Numerals.{add-one}
 use native.Mathlib.Omega.{arith}
-use Rattle.verdict.specs.declared.Refusal.{Refusal}
 use Rattle.verdict.specs.Refusal.{refusal_of}
-use Rattle.verdict.specs.Rules.{Rule, pick, judge}
+use Rattle.verdict.specs.Rules.{pick, judge}
 use Rattle.verdict.specs.Turns.{in_turn}
 use Rattle.verdict.proofs.Turns.{turn-none, turn_more, turn-split}
 use Rattle.verdict.proofs.Rules.{either}
 use Rattle.memory.specs.declared.Cause.{Cause}
-use Rattle.memory.specs.declared.Fault.{Fault}
 use Rattle.memory.specs.declared.Fault.TheVariants.{Nothing, At}
 use Rattle.memory.specs.Map.{Tried, first_fault, cause_number, cause_place, fault_refusal, as_rule, map_tried, map_rules}
 

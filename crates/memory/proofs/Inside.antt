@@ -1,7 +1,7 @@
 -- What lies inside one record of an allowed kind: `inside` in plain facts, `lies`, which names the record, and the records
 -- that `lies_in` has passed. Assumes nothing.
 use mathlib.Core.Path.{◌≡◌, refl, sym, ap, subst, ◌∙◌}
-use mathlib.Core.Bool.{Bool, true, false, ◌&&◌, ◌||◌, true≢false, false≢true}
+use mathlib.Core.Bool.{Bool, true, false, ◌&&◌, true≢false, false≢true}
 use mathlib.Core.List.Memᴰ
 use mathlib.Core.List.{List, [], ◌∷◌, ◌++◌, Memᴰ}
 use mathlib.Core.Logic.{◌↔◌, ◌⊎◌, inl, inr}
@@ -14,7 +14,6 @@ use lib.Dec.{leb}
 use lib.ListN.{length}
 use Rattle.wire.proofs.Sets.{across}
 use Rattle.verdict.specs.Turns.{in_turn, up_to}
-use Rattle.verdict.specs.Rules.{pick}
 use Rattle.verdict.proofs.Turns.{up_to-none, up_to-more, turn-split, length-up_to, in-up_to}
 use Rattle.verdict.proofs.Rules.{either}
 use Rattle.memory.specs.declared.Record.{Record}

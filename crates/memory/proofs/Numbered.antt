@@ -2,7 +2,7 @@
 use mathlib.Core.List.{List, [], ◌∷◌, map as each}
 use Prim.Native.Nat.{ℕ, ◌≤◌}
 use lib.Dec.{lit≤}
-use Rattle.verdict.specs.Rules.{Rule, Numbered}
+use Rattle.verdict.specs.Rules.{Numbered}
 use Rattle.verdict.proofs.Each.{each_none}
 use Rattle.verdict.proofs.Verdict.{numbered-cons}
 use Rattle.memory.specs.declared.Cause.{Cause}

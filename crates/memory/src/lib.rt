@@ -3,11 +3,13 @@
 // Page 01 calls every fault of a map 4 and names no place. The cause and the record are known all the same, and
 // `specs/Map.antt` says in one place which number and which place each cause is answered with.
 
+#![tactic(auto)]
+
 ghost use Rattle.std.specs.Prelude.{◌≡◌, true, ◌&&◌, ◌+◌, ◌*◌, ◌≤◌, length};
 ghost use Rattle.memory.specs.Map.{record_at, records, count_broken, multiple_broken, width_allowed, top, end_broken, kind_broken, order_broken, record_tried, map_tried, first_fault, holds, ram_or, lies};
 
 // A record of the map.
-#[derive(Drop)]
+#[derive(Clone, Copy)]
 pub struct Record {
     pub start: u64,
     pub length: u64,
@@ -18,7 +20,7 @@ pub struct Record {
 }
 
 // What is wrong with a map.
-#[derive(Drop)]
+#[derive(Clone, Copy)]
 pub enum Cause {
     // It has no record, a length that is not a multiple of 24, or more than 64 records.
     Count,
@@ -33,7 +35,7 @@ pub enum Cause {
 }
 
 // The first fault of a map.
-#[derive(Drop)]
+#[derive(Clone, Copy)]
 pub enum Fault {
     // No rule of the map is broken.
     Nothing,
@@ -42,7 +44,7 @@ pub enum Fault {
 }
 
 // Where addresses lie.
-#[derive(Drop)]
+#[derive(Clone, Copy)]
 pub enum Lies {
     // Wholly inside one record of an allowed kind: the first such record's number.
     In(usize),

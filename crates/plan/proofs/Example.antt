@@ -1,13 +1,11 @@
 -- The definitions of the plan computed, at the places where an error looks right. Assumes nothing.
 use mathlib.Core.Path.{◌≡◌, refl}
-use mathlib.Core.List.{List, [], ◌∷◌, ◌++◌}
-use Prim.Native.Nat.{ℕ}
-use lib.ListN.{length, replicate, get_or}
-use Rattle.wire.specs.Number.{le, number_at}
+use mathlib.Core.List.{[], ◌∷◌}
+use lib.ListN.{replicate}
+use Rattle.wire.specs.Number.{le}
 use Rattle.verdict.specs.Turns.{in_turn}
 use Rattle.tdvf.specs.declared.Section.{Section}
-use Rattle.plan.specs.declared.Page.{Page}
-use Rattle.plan.specs.Plan.{source_of, data_length, data_offset, page_of, pages_of, pages, page_bytes, plan_bytes, page_at}
+use Rattle.plan.specs.Plan.{source_of, data_length, data_offset, page_of, pages_of, pages, page_bytes}
 use Rattle.plan.specs.View.{slice_of, part, view, content, held}
 
 -- a boot volume of two pages with one byte of raw data, at 7 of the image

@@ -1,5 +1,5 @@
 -- "Every planned page is added once": what is said of a list of pages. Assumes nothing.
-use Rattle.std.specs.Prelude.{◌⊎◌, ℕ, ◌+◌, ◌≤◌}
+use Rattle.std.specs.Prelude.{◌⊎◌, ◌+◌, ◌≤◌}
 use mathlib.Core.List.{List, [], ◌∷◌, Memᴰ}
 use Rattle.plan.specs.declared.Page.{Page}
 

@@ -1,5 +1,5 @@
 -- Page 01, "The plan": the page view, and the 4,096 bytes that a page holds. Assumes nothing.
-use Rattle.std.specs.Prelude.{Bool, ◌&&◌, List, [], ◌++◌, ℕ, zero, suc, ◌+◌, leb, length, take, drop, replicate}
+use Rattle.std.specs.Prelude.{◌&&◌, List, [], ◌++◌, ℕ, zero, suc, ◌+◌, leb, length, take, drop, replicate}
 use Rattle.verdict.specs.Rules.{pick}
 use Rattle.plan.specs.declared.Page.{Page}
 

@@ -1,6 +1,9 @@
 // The plan: a record of 16 bytes for each page that the TDX module adds, and the view of the bytes behind one.
 //
 // No sum is formed that could wrap: the contracts say what the launch's rules keep, and what is left is compared.
+
+#![tactic(auto)]
+
 ghost use Rattle.std.specs.Prelude.{◌≡◌, ℕ, ◌+◌, ◌*◌, ◌^◌, ◌≤◌, ◌<◌, length};
 ghost use Rattle.std.proofs.lemmas.List.Edits.{sets};
 ghost use Rattle.verdict.specs.Turns.{up_to};
@@ -12,7 +15,7 @@ ghost use Rattle.plan.specs.View.{part, view};
 use tdvf::Section;
 
 // A planned page.
-#[derive(Drop)]
+#[derive(Clone, Copy)]
 pub struct Page {
     pub address: u64,
     // Where its data starts, in the image or in the HOB list; 0 where it has none.
@@ -26,7 +29,7 @@ pub struct Page {
 }
 
 // Where a section's data comes from.
-#[derive(Drop)]
+#[derive(Clone, Copy)]
 pub struct Source {
     // Where it starts, in the image or in the HOB list.
     pub start: u64,

@@ -1,6 +1,6 @@
 -- FIPS 180-4, sections 5.1.2 and 5.2.2: the padding of a message of whole bytes, and its blocks of 128 bytes.
 -- Assumes nothing.
-use Rattle.std.specs.Prelude.{ℕ, ◌+◌, ◌-◌, ◌*◌, ◌/◌, ◌%◌, List, [], ◌∷◌, ◌++◌, length, take, drop, replicate}
+use Rattle.std.specs.Prelude.{ℕ, ◌-◌, ◌*◌, ◌/◌, ◌%◌, List, ◌∷◌, ◌++◌, length, take, drop, replicate}
 use Rattle.sha384.specs.Words.{bytes}
 
 -- 5.1.2: how many bytes of zeros follow the byte 0x80 after a message of n bytes. In bits, k is the least solution of

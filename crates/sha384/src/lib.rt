@@ -3,6 +3,9 @@
 // `digest` hashes a message that is lent whole. A message that comes in pieces is hashed by blocks: `start`,
 // `block` for each 128 bytes, and `finish` with what is left and the length of the whole. Where the pieces are whole
 // blocks, the padding is a block like the others: `padding_block`, and then `leftmost`.
+
+#![tactic(auto)]
+
 mod constants;
 mod padding;
 mod rounds;
@@ -15,7 +18,7 @@ ghost use Rattle.sha384.specs.Padding.{padding};
 ghost use Rattle.sha384.specs.Hash.{compressed, left384, finished, sha384};
 
 // The eight words of a hash value, and the eight working variables of a round.
-#[derive(Drop)]
+#[derive(Clone, Copy)]
 pub struct State {
     pub a: u64,
     pub b: u64,
@@ -53,8 +56,8 @@ pub fn start() -> State
 
 // The hash value after one block more.
 pub fn block(state: State, bytes: &[u8], table: &[u64; 80]) -> State
-    requires bytes_len { length bytes.now ≡ 128 }
-    requires table_value { table.now ≡ K }
+    requires whole_block { length bytes.now ≡ 128 }
+    requires constants { table.now ≡ K }
     ensures { result ≡ compressed state bytes.now }
 {
     let w = schedule::words(bytes);
@@ -83,8 +86,8 @@ pub fn leftmost(state: State) -> [u8; 48]
 
 // The digest of a message of `total` bytes, from the hash value after its whole blocks and the bytes that are left.
 pub fn finish(state: State, left: &[u8], total: u64, table: &[u64; 80]) -> [u8; 48]
-    requires left_len { length left.now ≡ total % 128 }
-    requires table_value { table.now ≡ K }
+    requires left_over { length left.now ≡ total % 128 }
+    requires constants { table.now ≡ K }
     ensures { result ≡ finished state left.now total }
 {
     let last = padding::last(left, total);

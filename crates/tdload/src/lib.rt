@@ -1,6 +1,9 @@
 // The interface for C and Rust: a static library, declared in include/tdload.h.
 //
 // A `&[u8]` passes as a pointer and then a length, a `&mut [u8; 48]` as a pointer. Nothing is kept after a call.
+
+#![tactic(auto)]
+
 ghost use Rattle.std.specs.Prelude.{◌≡◌};
 ghost use Rattle.std.proofs.Math.ListN as list;
 ghost use Rattle.sha384.specs.Hash.{sha384};
@@ -12,7 +15,7 @@ use verdict::{Place, number_of, place_of};
 
 // `struct tdload_answer` of the header, field by field; its `hob_length` is `handoff` here.
 #[repr(C)]
-#[derive(Drop)]
+#[derive(Clone, Copy)]
 pub struct Answer {
     pub refusal: u32,
     pub place: u32,
@@ -25,7 +28,7 @@ pub struct Answer {
 
 // `struct tdload_view` of the header: where the bytes behind a record are. All zeros where there are none.
 #[repr(C)]
-#[derive(Drop)]
+#[derive(Clone, Copy)]
 pub struct View {
     // 0 neither, 1 the image, 2 the HOB list.
     pub slice: u32,
@@ -90,7 +93,7 @@ pub extern "C" fn tdload_launch(
     plan: &mut [u8],
     handoff: &mut [u8],
 ) -> Answer
-    ensures value { result ≡ outward (answer (host_with map.now width (list.length plan.old) (list.length handoff.old)) image.now) }
+    ensures answered { result ≡ outward (answer (host_with map.now width (list.length plan.old) (list.length handoff.old)) image.now) }
     ensures plan_after { plan.new ≡ plan_after (host_with map.now width (list.length plan.old) (list.length handoff.old)) image.now }
     ensures handoff_after { handoff.new ≡ handoff_after (host_with map.now width (list.length plan.old) (list.length handoff.old)) image.now }
 {

@@ -3,11 +3,10 @@ use mathlib.Core.Path.{◌≡◌, sym, ◌∙◌}
 use mathlib.Core.Bool.{true, false, not}
 use mathlib.Core.Logic.{◌⊎◌, inl, inr}
 use mathlib.Core.List.{List, ◌∷◌}
-use Prim.Native.Nat.{ℕ, zero, ◌+◌, ◌%◌, ◌≤◌}
+use Prim.Native.Nat.{ℕ, ◌+◌, ◌%◌, ◌≤◌}
 use native.Mathlib.Omega.{arith}
 use borrow.Author.Tests.{ltb-false, leb-true, eqb-true, eqb-false, not-false}
 use lib.Dec.{ltb, eqb}
-use Rattle.verdict.specs.declared.Place.TheVariants as place
 use Rattle.verdict.specs.declared.Refusal.TheVariants.{Nothing}
 use Rattle.verdict.specs.Rules.{Rule, judge}
 use Rattle.verdict.proofs.Rules.{either, judge-kept, judge-refuses}

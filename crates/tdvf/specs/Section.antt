@@ -1,7 +1,7 @@
 -- Page 01, "The image": the rules of a section that the image alone decides, true where one is broken, and those of all sections.
 -- Ends are whole numbers, never wrapped.
 -- Assumes nothing.
-use Rattle.std.specs.Prelude.{Bool, true, false, not, ◌&&◌, ◌||◌, List, [], ◌∷◌, ℕ, zero, suc, ◌+◌, ◌-◌, ◌*◌, ◌/◌, ◌%◌, min, max, leb, ltb, eqb}
+use Rattle.std.specs.Prelude.{Bool, true, false, not, ◌&&◌, ◌||◌, List, [], ◌∷◌, ℕ, zero, suc, ◌+◌, ◌/◌, ◌%◌, min, max, leb, ltb, eqb}
 use Rattle.verdict.specs.declared.Place.TheVariants as place
 use Rattle.verdict.specs.Rules.{Rule, rule, pick}
 use Rattle.memory.specs.Map.{ram_or}

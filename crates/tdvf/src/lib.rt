@@ -2,6 +2,9 @@
 //
 // No sum is formed that could wrap: a number that the image gives is widened first, or what is left is compared.
 // The loop over the sections, which the memory map decides too, is in crate `launch`.
+
+#![tactic(auto)]
+
 ghost use Rattle.std.specs.Prelude.{◌≡◌, List, [], ◌∷◌, ◌++◌, ◌+◌, ◌*◌, ◌^◌, ◌≤◌, ◌<◌, leb, length};
 ghost use Rattle.verdict.specs.Rules.{judge};
 ghost use Rattle.verdict.specs.Turns.{up_to};
@@ -12,7 +15,7 @@ ghost use Rattle.tdvf.specs.Section.{sort_broken, attributes_broken, raw_broken,
 use verdict::{Place, Refusal};
 
 // A section, as the descriptor has it.
-#[derive(Drop)]
+#[derive(Clone, Copy)]
 pub struct Section {
     // Where its data starts in the image.
     pub offset: u32,
@@ -29,7 +32,7 @@ pub struct Section {
 }
 
 // Where the descriptor is.
-#[derive(Drop)]
+#[derive(Clone, Copy)]
 pub enum Located {
     // Where it starts, and how many sections it has.
     At(usize, usize),
@@ -38,7 +41,7 @@ pub enum Located {
 }
 
 // What rules 16 to 19 go by.
-#[derive(Drop)]
+#[derive(Clone, Copy)]
 pub struct Totals {
     // How many sections are boot volumes, and how many TD HOB.
     pub boots: usize,

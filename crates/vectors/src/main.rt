@@ -1,9 +1,13 @@
 // Prints SHA-384 of the published messages, and of some at the padding's seams, one line for each: a label, a space and
 // the digest in hex. The file `stdout` beside src/ has what a second program, coreutils' sha384sum, says of the same
 // messages (tests/vectors), and the gate compares the two.
+
+#![tactic(auto)]
+
 ghost use Rattle.std.specs.Prelude.{◌<◌};
 
-use libc::STDOUT_FILENO;
+use std::io;
+use std::io::Write;
 
 fn digit(n: u8) -> u8
     requires { n < 16 }
@@ -32,12 +36,16 @@ fn hex(digest: &[u8; 48]) -> [u8; 96] {
     text
 }
 
-fn line(label: &[u8], digest: [u8; 48]) {
+fn line<R: Print>(rt: &R, label: &[u8], digest: [u8; 48]) -> io::Result<()> {
     let text = hex(&digest);
-    io::write_all(STDOUT_FILENO, label);
-    io::write_all(STDOUT_FILENO, b" ");
-    io::write_all(STDOUT_FILENO, &text);
-    io::write_all(STDOUT_FILENO, b"\n");
+    let mut out = io::writer(rt);
+    out.write_all(label)?;
+    out.write_all(b" ")?;
+    out.write_all(&text)?;
+    out.write_all(
+        b"
+",
+    )
 }
 
 // One million times "a" is not lent whole but hashed by blocks: 7,812 of them, and 64 bytes that are left.
@@ -65,29 +73,31 @@ fn counted() -> [u8; 256] {
 }
 
 // The line for its first n bytes; nothing where it has fewer.
-fn part(label: &[u8], bytes: &[u8; 256], n: usize) {
+fn part<R: Print>(rt: &R, label: &[u8], bytes: &[u8; 256], n: usize) -> io::Result<()> {
     let whole: &[u8] = bytes;
     if n <= whole.len() {
-        line(label, sha384::digest(&whole[0..n]));
+        line(rt, label, sha384::digest(&whole[0..n]))?;
     }
+    Ok(())
 }
 
-fn main() {
-    line(b"empty", sha384::digest(b""));
-    line(b"abc", sha384::digest(b"abc"));
+fn main(rt: HostRuntime) -> io::Result<()> {
+    line(&rt, b"empty", sha384::digest(b""))?;
+    line(&rt, b"abc", sha384::digest(b"abc"))?;
     line(
+        &rt,
         b"896-bit",
         sha384::digest(
             b"abcdefghbcdefghicdefghijdefghijkefghijklfghijklmghijklmnhijklmnoijklmnopjklmnopqklmnopqrlmnopqrsmnopqrstnopqrstu",
         ),
-    );
-    line(b"million-a", million());
+    )?;
+    line(&rt, b"million-a", million())?;
     let bytes = counted();
-    part(b"bytes-111", &bytes, 111);
-    part(b"bytes-112", &bytes, 112);
-    part(b"bytes-113", &bytes, 113);
-    part(b"bytes-127", &bytes, 127);
-    part(b"bytes-128", &bytes, 128);
-    part(b"bytes-129", &bytes, 129);
-    part(b"bytes-256", &bytes, 256);
+    part(&rt, b"bytes-111", &bytes, 111)?;
+    part(&rt, b"bytes-112", &bytes, 112)?;
+    part(&rt, b"bytes-113", &bytes, 113)?;
+    part(&rt, b"bytes-127", &bytes, 127)?;
+    part(&rt, b"bytes-128", &bytes, 128)?;
+    part(&rt, b"bytes-129", &bytes, 129)?;
+    part(&rt, b"bytes-256", &bytes, 256)
 }

@@ -2,11 +2,14 @@
 //
 // A rule is a variant that carries its place. `specs/Refusal.antt` has the page's number and place for each variant, and
 // `specs/Rules.antt` the row of rules whose first broken one is the verdict.
+
+#![tactic(auto)]
+
 ghost use Rattle.std.specs.Prelude.{◌≡◌};
 ghost use Rattle.verdict.specs.Refusal.{number, place};
 
 // Where a rule is broken.
-#[derive(Drop)]
+#[derive(Clone, Copy)]
 pub enum Place {
     // The page names no place.
     Nowhere,
@@ -17,7 +20,7 @@ pub enum Place {
 }
 
 // The rule that is broken, in the order of the page, or nothing.
-#[derive(Drop)]
+#[derive(Clone, Copy)]
 pub enum Refusal {
     // No rule is broken: the launch is accepted.
     Nothing,
@@ -62,6 +65,7 @@ pub enum Refusal {
 }
 
 // The page's number of a refusal; 0 where nothing is refused.
+#[tactic(auto, unfolding(crate::specs::Refusal::number))]
 pub fn number_of(refusal: Refusal) -> u32
     ensures { result ≡ number refusal }
 {
@@ -90,6 +94,7 @@ pub fn number_of(refusal: Refusal) -> u32
 }
 
 // The place of a refusal.
+#[tactic(auto, unfolding(crate::specs::Refusal::place))]
 pub fn place_of(refusal: Refusal) -> Place
     ensures { result ≡ place refusal }
 {

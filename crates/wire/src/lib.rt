@@ -3,6 +3,8 @@
 //
 // The contracts cite `specs/Number.antt`; the laws that a caller's proof needs are in `proofs/`.
 
+#![tactic(auto)]
+
 ghost use Rattle.std.specs.Prelude.{◌≡◌, ◌+◌, ◌*◌, ◌≤◌, length, replicate};
 ghost use Rattle.std.proofs.lemmas.List.Edits.{sets};
 ghost use Rattle.wire.specs.Number.{le, number_at};

@@ -1,0 +1,17 @@
+-- `measure::count_of` meets its contract: the last byte of the record says. Assumes nothing.
+use Rattle.std.proofs.Common.{sym}
+use Rattle.measure.proofs.Blocks.{count-measured, count-other, count_past}
+use Rattle.measure.proofs.count_of.Goals as goal
+
+pub returns-then-plan-at : goal.returns-then-plan-at
+returns-then-plan-at c = sym (count_past c.args.plan.now c.args.index c.if-plan-at.true)
+
+pub returns-then-plan-at-eq1 : goal.returns-then-plan-at-eq1
+returns-then-plan-at-eq1 c =
+    let a = c.args in
+    sym (count-measured a.plan.now a.index c.if-plan-at-eq1.true)
+
+pub returns : goal.returns
+returns c =
+    let a = c.args in
+    sym (count-other a.plan.now a.index c.if-plan-at-eq1.false)
