@@ -1,7 +1,7 @@
 /* tdload: a launch loader for Intel TDX trust domains, and SHA-384, for C and C++, from a library
    whose every function is proved.
 
-   Link target/staticlib/libtdload.a, which `rt staticlib tdload` writes. It is for x86-64 Linux and
+   Link target/staticlib/libtdload.a, which `tools/build` writes. It is for x86-64-v2 Linux and
    needs nothing but memcpy and memset of the C library.
 
    What every function here asks of its caller, which C cannot check and the function does not test:

@@ -12,7 +12,7 @@ fn main() {
     println!("cargo:rerun-if-changed={}", library.display());
     if !library.is_file() {
         // The linker's own message would not say how to make the file.
-        eprintln!("{} is missing: run `rt staticlib tdload` in the repository", library.display());
+        eprintln!("{} is missing: run `tools/build` in the repository", library.display());
         exit(1);
     }
     println!("cargo:rustc-link-search=native={}", folder.display());
