@@ -1,4 +1,4 @@
--- `handoff::count_cut` meets its contract. What is counted and what is still to be cut make the whole; a turn counts one piece. At most 65 are
+-- `handoff::count_cut`: the goals that are answered by hand. Invariants.antt says why it meets its contract. Assumes nothing.
 use mathlib.Core.Path.{◌≡◌, ap}
 use Prim.Native.Nat.{ℕ}
 use native.Mathlib.Omega.{arith}

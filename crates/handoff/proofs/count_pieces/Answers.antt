@@ -1,4 +1,4 @@
--- `handoff::count_pieces` meets its contract. After i records the pieces of the first i are counted, at most 65 of each. Assumes nothing.
+-- `handoff::count_pieces`: the goals that are answered by hand. Invariants.antt says why it meets its contract. Assumes nothing.
 use mathlib.Core.Path.{◌≡◌, ap, ◌∙◌}
 use Prim.Native.Nat.{ℕ, ◌<◌}
 use native.Mathlib.Omega.{arith}
@@ -21,7 +21,11 @@ pub record_pieces-total-requires : goal.record_pieces-total-requires
 record_pieces-total-requires c =
     let a = c.args in
     let ss = up_to (section_at a.descriptor.now) a.count in
-    let l : c.loop-i.i < record_count a.map.now = omega arith in record { whole_table = c.requires.whole_table; fits = rw c.record_at-r.ensures (c.requires.ends_fit.low c.loop-i.i l) }
+    let l : c.loop-i.i < record_count a.map.now = omega arith in
+    record {
+      whole_table = c.requires.whole_table;
+      fits = rw c.record_at-r.ensures (c.requires.ends_fit.low c.loop-i.i l);
+    }
 
 pub overflow_add-total : goal.overflow_add-total
 overflow_add-total c =

@@ -1,4 +1,4 @@
--- `handoff::next_of` meets its contract. With k sections still to try, `next` is the next of those behind them; a turn puts one in front. Assumes nothing.
+-- `handoff::next_of`: the goals that are answered by hand. Invariants.antt says why it meets its contract. Assumes nothing.
 use mathlib.Core.Path.{◌≡◌}
 use native.Mathlib.Omega.{arith}
 use Rattle.tdvf.specs.Image.{section_at}

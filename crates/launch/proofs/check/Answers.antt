@@ -72,7 +72,12 @@ lay_out-requires c =
     let t = c.check in
     let r = c.fault_refusal-faulty in
     let kept = no-fault t.result (sym r.ensures ∙ c.in-Nothing-faulty.is) in
-    let width = (first-kept (host_with c.args.map.now c.args.width c.args.plan c.args.handoff) (fields_of image) (sym one ∙ c.in-Nothing.is)).width in record { whole_table = (part-few image d n (sym c.locate-located.ensures ∙ c.in-At.is), part-long image d n (sym c.locate-located.ensures ∙ c.in-At.is)); counted_all = part_count image d n (sym c.locate-located.ensures ∙ c.in-At.is); ends_fit = ends-fit c.args.width c.args.map.now width (sym t.ensures ∙ kept) }
+    let width = (first-kept (host_with c.args.map.now c.args.width c.args.plan c.args.handoff) (fields_of image) (sym one ∙ c.in-Nothing.is)).width in
+    record {
+      whole_table = (part-few image d n (sym c.locate-located.ensures ∙ c.in-At.is), part-long image d n (sym c.locate-located.ensures ∙ c.in-At.is));
+      counted_all = part_count image d n (sym c.locate-located.ensures ∙ c.in-At.is);
+      ends_fit = ends-fit c.args.width c.args.map.now width (sym t.ensures ∙ kept);
+    }
 
 pub returns : goal.returns
 returns c =
@@ -82,4 +87,5 @@ returns c =
     let d = c.in-At.offset in
     let n = c.in-At.count in
     c.lay_out.ensures ∙ part-laid a.image.now d n (sym c.locate-located.ensures ∙ c.in-At.is) a.map.now a.width a.plan a.handoff
-    ∙ sym (checked-laid (host_with c.args.map.now c.args.width c.args.plan c.args.handoff) (fields_of a.image.now) (sym one ∙ c.in-Nothing.is) (sym two ∙ c.in-Nothing-faulty.is) (part-kept a.image.now d n (sym c.locate-located.ensures ∙ c.in-At.is)))
+    ∙ sym (checked-laid (host_with c.args.map.now c.args.width c.args.plan c.args.handoff) (fields_of a.image.now) (sym one ∙ c.in-Nothing.is)
+    (sym two ∙ c.in-Nothing-faulty.is) (part-kept a.image.now d n (sym c.locate-located.ensures ∙ c.in-At.is)))

@@ -22,7 +22,13 @@ write_list-requires c =
     let w = c.requires.width in
     let p = length a.plan.now in
     let q = length a.handoff.now in
-    let e = c.requires.is in record { whole_table = few-long a.map.now w p q a.image.now a.layout e; ends_fit = ends a.map.now w p q a.image.now a.layout e; whole_list = length-is a.map.now w p q a.image.now a.layout e; room = list-room a.map.now w p q a.image.now a.layout e }
+    let e = c.requires.is in
+    record {
+      whole_table = few-long a.map.now w p q a.image.now a.layout e;
+      ends_fit = ends a.map.now w p q a.image.now a.layout e;
+      whole_list = length-is a.map.now w p q a.image.now a.layout e;
+      room = list-room a.map.now w p q a.image.now a.layout e;
+    }
 
 pub write_plan-requires : goal.write_plan-requires
 write_plan-requires c =

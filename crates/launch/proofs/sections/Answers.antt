@@ -1,4 +1,4 @@
--- `launch::sections` meets its contract. While the loop goes on, the sections passed break no rule, and in the inner loop the earlier
+-- `launch::sections`: the goals that are answered by hand. Invariants.antt says why it meets its contract. Assumes nothing.
 use mathlib.Core.Path.{◌≡◌, refl, sym, ap, ◌∙◌}
 use mathlib.Core.Bool.{true, false}
 use Prim.Native.Nat.{ℕ}
@@ -51,8 +51,12 @@ sections-preserved c =
     let all : j.j ≡ k = omega arith in
     let apart : shared_broken (up_to this k) (this k) ≡ false =
     ap (λ (n : ℕ). shared_broken (up_to this n) (this k)) (sym all)
-    ∙ ap (λ (t : Section). shared_broken (up_to this j.j) t) (sym s.ensures) ∙ j.invariant.2 in
-    (omega (arith, c.sections-test.true), j.invariant.1 ∙ c.sections.invariant.1, turns_next (section_rules h f) k c.sections.invariant.2 (row_kept h f k none (is-inside h f k s.result s.ensures w.result w.ensures l.result l.ensures c.in-In.field-0 c.in-In.is) apart))
+    ∙ ap (λ (t : Section). shared_broken (up_to this j.j) t) (sym s.ensures) ∙ j.invariant.2 in (
+      omega (arith, c.sections-test.true),
+      j.invariant.1 ∙ c.sections.invariant.1,
+      turns_next (section_rules h f) k c.sections.invariant.2
+          (row_kept h f k none (is-inside h f k s.result s.ensures w.result w.ensures l.result l.ensures c.in-In.field-0 c.in-In.is) apart),
+    )
 
 pub returns-after-sections : goal.returns-after-sections
 returns-after-sections c =

@@ -1,4 +1,4 @@
--- `measure::absorb` meets its contract. At each turn the cursor stands at the next block, and the hash value is
+-- `measure::absorb`: the goals that are answered by hand. Invariants.antt says why it meets its contract. Assumes nothing.
 use Rattle.std.proofs.Common.{◌≡◌, ℕ, ◌+◌, List, sym, ap, ◌∙◌, ap₂, arith}
 use Rattle.sha384.specs.Hash.{compressed}
 use Rattle.sha384.specs.declared.State.{State}
@@ -19,7 +19,11 @@ loop-done-init c =
 pub absorb_block-value-requires : goal.absorb_block-value-requires
 absorb_block-value-requires c =
     let l = c.loop-done in
-    let a = c.args in record { stands = (omega (arith, l.invariant.1, c.requires.few_blocks, before-least a.plan.now l.c.record), l.invariant.2); constants = c.requires.constants }
+    let a = c.args in
+    record {
+      stands = (omega (arith, l.invariant.1, c.requires.few_blocks, before-least a.plan.now l.c.record), l.invariant.2);
+      constants = c.requires.constants;
+    }
 
 pub overflow_add-c : goal.overflow_add-c
 overflow_add-c c =

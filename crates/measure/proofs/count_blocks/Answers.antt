@@ -1,4 +1,4 @@
--- `measure::count_blocks` meets its contract. After `index` records their blocks are counted, at most 49 of
+-- `measure::count_blocks`: the goals that are answered by hand. Invariants.antt says why it meets its contract. Assumes nothing.
 use Rattle.std.proofs.Common.{◌≡◌, sym, ap, ◌∙◌, arith}
 use Rattle.measure.specs.Stream.{before}
 use Rattle.measure.proofs.Blocks.{count_most, before-none, before_more, before-most}

@@ -1,4 +1,4 @@
--- `measure::forward` meets its contract. A record that is passed takes its blocks off; each has one at least, so
+-- `measure::forward`: the goals that are answered by hand. Invariants.antt says why it meets its contract. Assumes nothing.
 use Rattle.std.proofs.Common.{refl, arith}
 use Rattle.measure.proofs.Blocks.{count-least, before_more}
 use Rattle.measure.proofs.forward.Goals as goal

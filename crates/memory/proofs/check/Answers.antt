@@ -1,4 +1,4 @@
--- `memory::check` meets its contract. At each turn none of the records passed has a fault, and `before` is the end of the last
+-- `memory::check`: the goals that are answered by hand. Invariants.antt says why it meets its contract. Assumes nothing.
 use mathlib.Core.Path.{sym, ◌∙◌}
 use native.Mathlib.Omega.{arith}
 use Rattle.memory.proofs.Kept.{count-fault, pass-none, before-none, before-next, pass-next, pass-stop, pass-end, end_fits}

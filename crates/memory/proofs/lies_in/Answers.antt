@@ -1,4 +1,4 @@
--- `memory::lies_in` meets its contract. At each turn none of the records passed serves, so a record that does is the first one,
+-- `memory::lies_in`: the goals that are answered by hand. Invariants.antt says why it meets its contract. Assumes nothing.
 use mathlib.Core.Path.{sym, ◌∙◌}
 use native.Mathlib.Omega.{arith}
 use Rattle.memory.proofs.Inside.{unfound-none, unfound-next, found_here, unfound-end}

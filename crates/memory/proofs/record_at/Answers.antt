@@ -6,7 +6,9 @@ use Rattle.wire.specs.Number.{number_at}
 use Rattle.memory.specs.Map.{record_at}
 use Rattle.memory.proofs.record_at.Goals as goal
 
-fields : (map : List ℕ) (i start size kind filler : ℕ) → start ≡ number_at 8 map (24 * i) → size ≡ number_at 8 map (24 * i + 8) → kind ≡ number_at 4 map (24 * i + 16) → filler ≡ number_at 4 map (24 * i + 20) → record { start = start; length = size; kind = kind; filler = filler } ≡ record_at map i
+fields : (map : List ℕ) (i start size kind filler : ℕ) → start ≡ number_at 8 map (24 * i) → size ≡ number_at 8 map
+    (24 * i + 8) → kind ≡ number_at 4 map (24 * i + 16) → filler ≡ number_at 4 map
+    (24 * i + 20) → record { start = start; length = size; kind = kind; filler = filler } ≡ record_at map i
 unfolding record_at
 fields map i start size kind filler s l k f = cc
 

@@ -20,9 +20,19 @@ returns-then-kind_broken c =
 pub returns-then-order_broken : goal.returns-then-order_broken
 unfolding first_fault record_tried
 returns-then-order_broken c =
-    rw ((sym c.multiple_broken.ensures ∙ c.if-multiple_broken.false), (sym c.end_broken.ensures ∙ c.if-end_broken.false), (sym c.kind_broken.ensures ∙ c.if-kind_broken.false), sym c.order_broken.ensures ∙ c.if-order_broken.true)
+    rw (
+      (sym c.multiple_broken.ensures ∙ c.if-multiple_broken.false),
+      (sym c.end_broken.ensures ∙ c.if-end_broken.false),
+      (sym c.kind_broken.ensures ∙ c.if-kind_broken.false),
+      sym c.order_broken.ensures ∙ c.if-order_broken.true,
+    )
 
 pub returns : goal.returns
 unfolding first_fault record_tried
 returns c =
-    rw ((sym c.multiple_broken.ensures ∙ c.if-multiple_broken.false), (sym c.end_broken.ensures ∙ c.if-end_broken.false), (sym c.kind_broken.ensures ∙ c.if-kind_broken.false), sym c.order_broken.ensures ∙ c.if-order_broken.false)
+    rw (
+      (sym c.multiple_broken.ensures ∙ c.if-multiple_broken.false),
+      (sym c.end_broken.ensures ∙ c.if-end_broken.false),
+      (sym c.kind_broken.ensures ∙ c.if-kind_broken.false),
+      sym c.order_broken.ensures ∙ c.if-order_broken.false,
+    )

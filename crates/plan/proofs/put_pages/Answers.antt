@@ -1,4 +1,4 @@
--- `plan::put_pages` meets its contract. After k turns the records of the first k pages are written, and a turn writes the next. Assumes nothing.
+-- `plan::put_pages`: the goals that are answered by hand. Invariants.antt says why it meets its contract. Assumes nothing.
 use mathlib.Core.Path.{◌≡◌, refl, ap, ◌∙◌}
 use Prim.Native.Nat.{ℕ}
 use native.Mathlib.Omega.{arith}

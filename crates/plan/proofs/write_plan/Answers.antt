@@ -1,4 +1,4 @@
--- `plan::write_plan` meets its contract. After k turns the records of the first k sections are written, and a turn writes those of the next;
+-- `plan::write_plan`: the goals that are answered by hand. Invariants.antt says why it meets its contract. Assumes nothing.
 use mathlib.Core.Path.{◌≡◌, refl, ap, ◌∙◌}
 use Prim.Native.Nat.{ℕ, ◌*◌, ◌<◌}
 use native.Mathlib.Omega.{arith}

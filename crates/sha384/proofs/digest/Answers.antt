@@ -1,4 +1,4 @@
--- `sha384::digest` meets its contract. At each turn `at` is a number of whole blocks, and the state is the hash value after
+-- `sha384::digest`: the goals that are answered by hand. Invariants.antt says why it meets its contract. Assumes nothing.
 use Rattle.std.proofs.Common.{refl, ◌∙◌, arith}
 use Rattle.sha384.specs.Constants.{H⁰}
 use Rattle.sha384.proofs.Hash.{after_none, part-more, part_end}

@@ -1,4 +1,4 @@
--- `tdvf::totals_of` meets its contract. At each turn the totals are those of the sections passed, and a turn adds the next one;
+-- `tdvf::totals_of`: the goals that are answered by hand. Invariants.antt says why it meets its contract. Assumes nothing.
 use mathlib.Core.Path.{◌≡◌, sym, ap, ◌∙◌}
 use mathlib.Core.List.{[], ◌∷◌, ◌++◌}
 use Prim.Native.Nat.{ℕ, ◌≤◌}

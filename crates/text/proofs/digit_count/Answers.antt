@@ -1,4 +1,4 @@
--- `text::digit_count` meets its contract. At each turn the digits counted and those of the rest are the number's; a turn counts the last
+-- `text::digit_count`: the goals that are answered by hand. Invariants.antt says why it meets its contract. Assumes nothing.
 use mathlib.Core.Path.{◌≡◌, ap, ◌∙◌}
 use native.Mathlib.Omega.{arith}
 use lib.ListN.{length}

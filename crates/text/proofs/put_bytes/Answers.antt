@@ -1,4 +1,4 @@
--- `text::put_bytes` meets its contract. At each turn, writing the bytes that are left gives the buffer that the contract names; a turn
+-- `text::put_bytes`: the goals that are answered by hand. Invariants.antt says why it meets its contract. Assumes nothing.
 use native.Mathlib.Omega.{arith}
 use Rattle.text.proofs.Bytes.{sets-bytes, sets-all}
 use borrow.Author.Rules.{rules}

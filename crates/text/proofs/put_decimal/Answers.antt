@@ -1,4 +1,4 @@
--- `text::put_decimal` meets its contract. At each turn, writing the digits of the rest that are left gives the buffer that the contract
+-- `text::put_decimal`: the goals that are answered by hand. Invariants.antt says why it meets its contract. Assumes nothing.
 use mathlib.Core.Path.{◌≡◌, sym, ap, ◌∙◌}
 use Prim.Native.Nat.{ℕ}
 use native.Mathlib.Omega.{arith}
@@ -26,4 +26,8 @@ pub returns : goal.returns
 unfolding digits
 returns c =
     let left : c.loop-left.left ≡ 0 = omega arith in
-    let a = c.args in record { written = ap (λ (n : ℕ). sets c.loop-left.buffer a.at (digits 10 last_digit n c.loop-left.rest)) (sym left) ∙ c.loop-left.invariant.2; next_place = (cc) }
+    let a = c.args in
+    record {
+      written = ap (λ (n : ℕ). sets c.loop-left.buffer a.at (digits 10 last_digit n c.loop-left.rest)) (sym left) ∙ c.loop-left.invariant.2;
+      next_place = (cc);
+    }

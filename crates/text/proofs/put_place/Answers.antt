@@ -17,7 +17,8 @@ unfolding place_text section_label
 returns-in-Section c =
     let a = c.args in
     let p = c.in-Section.is in
-    let w = placed-is a.buffer.now section_label a.place a.at c.in-Section.k c.put_labelled.new.buffer c.put_labelled.result (ap place_text p) (omega arith) (c.put_labelled.ensures.written, (c.put_labelled.ensures.next_place, c.put_labelled.ensures.at_most)) in
+    let w = placed-is a.buffer.now section_label a.place a.at c.in-Section.k c.put_labelled.new.buffer c.put_labelled.result (ap place_text p)
+    (omega arith) (c.put_labelled.ensures.written, (c.put_labelled.ensures.next_place, c.put_labelled.ensures.at_most)) in
     record { written = w.0; next_place = w.1.0; at_most = w.1.1 }
 
 pub returns-in-Record : goal.returns-in-Record
@@ -25,5 +26,12 @@ unfolding place_text record_label
 returns-in-Record c =
     let a = c.args in
     let p = c.in-Record.is in
-    let w = placed-is a.buffer.now record_label a.place a.at c.in-Record.k c.put_labelled-in-Record.new.buffer c.put_labelled-in-Record.result (ap place_text p) (omega arith) (c.put_labelled-in-Record.ensures.written, (c.put_labelled-in-Record.ensures.next_place, c.put_labelled-in-Record.ensures.at_most)) in
+    let w = placed-is a.buffer.now record_label a.place a.at c.in-Record.k c.put_labelled-in-Record.new.buffer c.put_labelled-in-Record.result
+    (ap place_text p) (omega arith) (
+      c.put_labelled-in-Record.ensures.written,
+      (
+        c.put_labelled-in-Record.ensures.next_place,
+        c.put_labelled-in-Record.ensures.at_most,
+      ),
+    ) in
     record { written = w.0; next_place = w.1.0; at_most = w.1.1 }

@@ -1,4 +1,4 @@
--- `wire::clear` meets its contract. At each turn the cleared bytes are 0 and the others as they were, which is
+-- `wire::clear`: the goals that are answered by hand. Invariants.antt says why it meets its contract. Assumes nothing.
 use mathlib.Core.Path.{◌≡◌, ap, ◌∙◌}
 use Prim.Native.Nat.{ℕ}
 use native.Mathlib.Omega.{arith}

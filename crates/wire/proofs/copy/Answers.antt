@@ -1,4 +1,4 @@
--- `wire::copy` meets its contract. After i turns the first i bytes are written, and a turn writes the next. Assumes nothing.
+-- `wire::copy`: the goals that are answered by hand. Invariants.antt says why it meets its contract. Assumes nothing.
 use native.Mathlib.Omega.{arith}
 use lib.Seq.{take_all}
 use borrow.Author.Rules.{rules}

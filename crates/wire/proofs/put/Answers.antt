@@ -1,4 +1,4 @@
--- `wire::put` meets its contract. At each turn, writing the bytes of what is left of the value, from the next place on, gives
+-- `wire::put`: the goals that are answered by hand. Invariants.antt says why it meets its contract. Assumes nothing.
 use mathlib.Core.Path.{◌≡◌, sym, ap, ◌∙◌}
 use Prim.Native.Nat.{ℕ}
 use native.Mathlib.Omega.{arith}

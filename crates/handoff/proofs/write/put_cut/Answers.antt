@@ -1,4 +1,4 @@
--- `handoff::write::put_cut` meets its contract. At each turn, writing the blocks of what is still to be cut, from the next place on, gives the buffer
+-- `handoff::write::put_cut`: the goals that are answered by hand. Invariants.antt says why it meets its contract. Assumes nothing.
 use mathlib.Core.Path.{◌≡◌, ap, ◌∙◌}
 use Prim.Native.Nat.{ℕ}
 use native.Mathlib.Omega.{arith}
@@ -15,7 +15,11 @@ returns-then-top-from c =
     let l = c.loop-steps in
     let a = c.args in
     let ss = up_to (section_at a.descriptor.now) a.count in
-    let e = cut-end l.steps ss l.from a.top (omega arith) in record { written = blocks-none l.buffer l.next (cut l.steps ss l.from a.top) e ∙ l.invariant.2; next_place = omega (arith, ap length e) }
+    let e = cut-end l.steps ss l.from a.top (omega arith) in
+    record {
+      written = blocks-none l.buffer l.next (cut l.steps ss l.from a.top) e ∙ l.invariant.2;
+      next_place = omega (arith, ap length e);
+    }
 
 pub put_piece-requires : goal.put_piece-requires
 put_piece-requires c =
@@ -50,4 +54,8 @@ returns c =
     let a = c.args in
     let ss = up_to (section_at a.descriptor.now) a.count in
     let z : l.steps ≡ 0 = omega arith in
-    let e = ap (λ (n : ℕ). cut n ss l.from a.top) z ∙ cut-none ss l.from a.top in record { written = blocks-none l.buffer l.next (cut l.steps ss l.from a.top) e ∙ l.invariant.2; next_place = omega (arith, ap length e) }
+    let e = ap (λ (n : ℕ). cut n ss l.from a.top) z ∙ cut-none ss l.from a.top in
+    record {
+      written = blocks-none l.buffer l.next (cut l.steps ss l.from a.top) e ∙ l.invariant.2;
+      next_place = omega (arith, ap length e);
+    }

@@ -1,4 +1,4 @@
--- `handoff::write::put_pieces` meets its contract. After i records the blocks of the first i are written; a turn writes those of one record more,
+-- `handoff::write::put_pieces`: the goals that are answered by hand. Invariants.antt says why it meets its contract. Assumes nothing.
 use mathlib.Core.Path.{◌≡◌, ap, ◌∙◌}
 use Prim.Native.Nat.{ℕ, ◌+◌, ◌*◌, ◌<◌}
 use native.Mathlib.Omega.{arith}
@@ -27,7 +27,12 @@ put_record-next-requires c =
     let l = c.loop-i in
     let a = c.args in
     let ss = up_to (section_at a.descriptor.now) a.count in
-    let h : l.i < record_count a.map.now = omega arith in record { whole_table = c.requires.whole_table; fits = rw r.ensures (c.requires.ends_fit.low l.i h); room = omega (arith, ap (λ (x : Record). length (pieces_of ss x)) r.ensures, pieces_room ss (record_at a.map.now) l.i (record_count a.map.now) h) }
+    let h : l.i < record_count a.map.now = omega arith in
+    record {
+      whole_table = c.requires.whole_table;
+      fits = rw r.ensures (c.requires.ends_fit.low l.i h);
+      room = omega (arith, ap (λ (x : Record). length (pieces_of ss x)) r.ensures, pieces_room ss (record_at a.map.now) l.i (record_count a.map.now) h);
+    }
 
 pub loop-i-preserved : goal.loop-i-preserved
 loop-i-preserved c =
@@ -49,4 +54,8 @@ returns c =
     let a = c.args in
     let ss = up_to (section_at a.descriptor.now) a.count in
     let f = record_at a.map.now in
-    let e : l.i ≡ record_count a.map.now = omega arith in record { written = l.invariant.3 ∙ ap (λ (n : ℕ). sets a.buffer.now a.at (piece_blocks (pieces ss (up_to f n)))) e; next_place = l.invariant.2 ∙ ap (λ (n : ℕ). a.at + 48 * length (pieces ss (up_to f n))) e }
+    let e : l.i ≡ record_count a.map.now = omega arith in
+    record {
+      written = l.invariant.3 ∙ ap (λ (n : ℕ). sets a.buffer.now a.at (piece_blocks (pieces ss (up_to f n)))) e;
+      next_place = l.invariant.2 ∙ ap (λ (n : ℕ). a.at + 48 * length (pieces ss (up_to f n))) e;
+    }

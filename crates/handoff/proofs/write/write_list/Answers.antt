@@ -17,7 +17,12 @@ put_first-requires c =
 pub put_pieces-next-requires : goal.put_pieces-next-requires
 put_pieces-next-requires c =
     let a = c.args in
-    let ps = pieces (up_to (section_at a.descriptor.now) a.count) (records a.map.now) in record { whole_table = c.requires.whole_table; ends_fit = c.requires.ends_fit; room = omega (arith, list-room ps a.length c.requires.whole_list) }
+    let ps = pieces (up_to (section_at a.descriptor.now) a.count) (records a.map.now) in
+    record {
+      whole_table = c.requires.whole_table;
+      ends_fit = c.requires.ends_fit;
+      room = omega (arith, list-room ps a.length c.requires.whole_list);
+    }
 
 pub put_last-requires : goal.put_last-requires
 put_last-requires c =

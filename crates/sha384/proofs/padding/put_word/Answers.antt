@@ -1,4 +1,4 @@
--- `sha384::padding::put_word` meets its contract. At each turn, writing what is left of the word's bytes gives the buffer
+-- `sha384::padding::put_word`: the goals that are answered by hand. Invariants.antt says why it meets its contract. Assumes nothing.
 use Rattle.std.proofs.Common.{◌≡◌, ℕ, sym, ap, ◌∙◌, arith, rules}
 use lib.Seq.{sets}
 use Rattle.sha384.specs.Words.{bytes}

@@ -1,4 +1,4 @@
--- `sha384::rounds::all` meets its contract. After t turns the state is that after t rounds, and a turn is one round more.
+-- `sha384::rounds::all`: the goals that are answered by hand. Invariants.antt says why it meets its contract. Assumes nothing.
 use Rattle.std.proofs.Common.{◌≡◌, ℕ, ap, ◌∙◌, arith}
 use Rattle.sha384.specs.Hash.{rounds}
 use Rattle.sha384.proofs.Hash.{rounds-none, rounds-more}

@@ -1,4 +1,4 @@
--- `sha384::schedule::first_words` meets its contract. After t turns the first t words are the schedule's, and for t below
+-- `sha384::schedule::first_words`: the goals that are answered by hand. Invariants.antt says why it meets its contract. Assumes nothing.
 use Rattle.std.proofs.Common.{◌≡◌, ℕ, take, sym, refl, ap, ◌∙◌, arith, length-set}
 use Rattle.sha384.specs.Hash.{schedule}
 use Rattle.sha384.proofs.Hash.{schedule-more, next-first}

@@ -1,4 +1,4 @@
--- `sha384::schedule::words` meets its contract. After each turn the first t words are the schedule's, and from t = 16 on
+-- `sha384::schedule::words`: the goals that are answered by hand. Invariants.antt says why it meets its contract. Assumes nothing.
 use Rattle.std.proofs.Common.{◌≡◌, ℕ, sym, ap, ◌∙◌, arith, length-set, take_all, rules}
 use Rattle.sha384.specs.Hash.{schedule}
 use Rattle.sha384.proofs.Hash.{schedule-more, next-in}
