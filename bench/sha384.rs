@@ -36,5 +36,5 @@ fn main() {
     println!();
     println!("Measured in one process and one thread, by the wall clock: after a warm-up of each, {ROUNDS} rounds, each of");
     println!("which digests the same {MIB} MiB once by each of the three, in an order that turns by one each round. All");
-    println!("three gave the same digest first. (a) and (b) are for any x86-64; OpenSSL picks code for this CPU as it runs.");
+    println!("three gave the same digest first. (a) is for x86-64-v2, (b) for any x86-64; OpenSSL picks its code as it runs.");
 }
