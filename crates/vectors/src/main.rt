@@ -42,10 +42,7 @@ fn line<R: Print>(rt: &R, label: &[u8], digest: [u8; 48]) -> io::Result<()> {
     out.write_all(label)?;
     out.write_all(b" ")?;
     out.write_all(&text)?;
-    out.write_all(
-        b"
-",
-    )
+    out.write_all(b"\n")
 }
 
 // One million times "a" is not lent whole but hashed by blocks: 7,812 of them, and 64 bytes that are left.
