@@ -98,7 +98,7 @@ struct tdload_begun tdload_begin(const uint8_t *image, size_t image_length,
 /* Does the next blocks of the measurement, `quota` at most. Lend the image and the plan of the start at
    every turn: then the turn that does the last block answers the measurement that tdload_launch answers,
    however the blocks were cut into turns. What another image or plan of the same lengths gives is defined
-   too, block by block (docs/RULES.md), but is the measurement of no launch.
+   too, block by block (docs/TURNS.md), but is the measurement of no launch.
 
    In this order:
    - A refused state answers its refusal, 0 blocks and the same state, whatever else is lent.
