@@ -18,6 +18,8 @@
 static uint8_t image[16 << 20], plan[65536], hob[8192], map[48], digest[48];
 static size_t image_length;
 static struct tdload_answer answer;
+static struct tdload_begun begun;
+static struct tdload_turned turned;
 static ucontext_t here, there;
 
 static void nothing(void) {}
@@ -26,6 +28,15 @@ static void hash(void) { tdload_sha384(image, image_length, digest); }
 
 static void launch(void) {
     answer = tdload_launch(image, image_length, map, sizeof map, 48, plan, sizeof plan, hob, sizeof hob);
+}
+
+static void begin(void) {
+    begun = tdload_begin(image, image_length, map, sizeof map, 48, plan, sizeof plan, hob, sizeof hob);
+}
+
+/* The first turn, with the last block in it. */
+static void turn(void) {
+    turned = tdload_turn(begun.state, image, image_length, plan, sizeof plan, UINT64_MAX);
 }
 
 static void put(uint8_t *at, size_t bytes, uint64_t value) {
@@ -84,7 +95,8 @@ int main(void) {
     low += PAGE;
     prepare(sizeof image, 4095);
     struct { const char *name; void (*function)(void); } tried[] = {
-        {"tdload_sha384, 16 MiB", hash}, {"tdload_launch, 16 MiB all measured", launch}};
+        {"tdload_sha384, 16 MiB", hash}, {"tdload_launch, 16 MiB all measured", launch},
+        {"tdload_begin of the same", begin}, {"tdload_turn, all blocks of it in one", turn}};
     size_t bare = used(nothing, low);
     for (size_t k = 0; k < sizeof tried / sizeof *tried; k++) {
         size_t bytes = used(tried[k].function, low);
@@ -94,6 +106,7 @@ int main(void) {
         run(tried[k].function, low + bytes, bytes);
     }
     if (answer.refusal != 0) return printf("refused %u\n", answer.refusal), 1;
-    puts("each ran again on a stack of exactly that size");
+    if (memcmp(answer.measurement, turned.measurement, 48) != 0) return puts("the measurements differ"), 1;
+    puts("each ran again on a stack of exactly that size; a call's arguments and the room for its answer are counted in");
     return 0;
 }

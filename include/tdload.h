@@ -57,6 +57,63 @@ struct tdload_answer tdload_launch(const uint8_t *image, size_t image_length,
                                    uint8_t *plan, size_t plan_length,
                                    uint8_t *hob, size_t hob_length);
 
+/* ---- the measurement in turns */
+
+/* What a turn is handed and hands back. Keep it as it is between two turns: it is plain numbers, may
+   be copied and stored, and holds no pointer. */
+struct tdload_state {
+    uint64_t hash[8];      /* SHA-384's hash value after the `done` blocks reported so far */
+    uint64_t done;         /* blocks done */
+    uint64_t total;        /* blocks to do: those of the stream, and one for the padding */
+    uint64_t image_length; /* of the image and of the plan buffer at the start */
+    uint64_t plan_length;
+    uint32_t refusal;      /* 0, or the launch's refusal, with its place and index */
+    uint32_t place;
+    uint64_t index;
+};
+
+/* What a start answers: the launch's answer, with a measurement of 48 zero bytes, and the first state. */
+struct tdload_begun {
+    struct tdload_answer answer;
+    struct tdload_state state;
+};
+
+/* What a turn answers. */
+struct tdload_turned {
+    struct tdload_state state; /* for the next turn */
+    uint32_t refusal;          /* 0: none; the launch's own, 1 to 19; 24: the quota is 0; 27: another length */
+    uint32_t place;            /* as in tdload_answer: none, but for the launch's own */
+    uint64_t index;
+    uint64_t blocks;           /* blocks done in this turn */
+    uint8_t measurement[48];   /* of a finished measurement, else 48 zero bytes */
+};
+
+/* Does all that tdload_launch does but for the measurement: the same refusals, and the same content of
+   both buffers. A refused launch gives a refused state. */
+struct tdload_begun tdload_begin(const uint8_t *image, size_t image_length,
+                                 const uint8_t *map, size_t map_length, uint32_t width,
+                                 uint8_t *plan, size_t plan_length,
+                                 uint8_t *hob, size_t hob_length);
+
+/* Does the next blocks of the measurement, `quota` at most. Lend the image and the plan of the start at
+   every turn: then the turn that does the last block answers the measurement that tdload_launch answers,
+   however the blocks were cut into turns. What another image or plan of the same lengths gives is defined
+   too, block by block (docs/TURNS.md), but is the measurement of no launch.
+
+   In this order:
+   - A refused state answers its refusal, 0 blocks and the same state, whatever else is lent.
+   - A quota of 0 is refusal 24, and an image or a plan of another length than at the start is refusal 27:
+     0 blocks, and the same state, with which the next turn goes on.
+   - A finished state answers its measurement and 0 blocks.
+   - Else the smaller of `quota` and of what is left of the total is done.
+
+   Image and plan are only read. A state that no tdload_begin and no tdload_turn gave is safe, and means
+   what its fields say: a refusal that is not 0 is answered as it stands, with its place and index; `done`
+   at or above `total` is finished, and `hash` is then the measurement's words; with refusal 0 the state's
+   place and index are not looked at, and are handed back. */
+struct tdload_turned tdload_turn(struct tdload_state state, const uint8_t *image, size_t image_length,
+                                 const uint8_t *plan, size_t plan_length, uint64_t quota);
+
 /* ---- the page view */
 
 /* Where the bytes behind a plan record are. All three are 0 where the page has no data. */

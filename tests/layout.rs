@@ -27,5 +27,8 @@ macro_rules! print_layout {
 
 fn main() {
     print_layout!("tdload_answer", raw::Answer: refusal place index pages hob_length blocks measurement);
+    print_layout!("tdload_state", raw::State: hash done total image_length plan_length refusal place index);
+    print_layout!("tdload_begun", raw::Begun: answer state);
+    print_layout!("tdload_turned", raw::Turned: state refusal place index blocks measurement);
     print_layout!("tdload_view", raw::View: slice offset length);
 }

@@ -48,6 +48,8 @@ pub struct Launch {
     pub map: PathBuf,
     pub width: u32,
     pub json: bool,
+    /// Whether no progress bar is wanted.
+    pub quiet: bool,
 }
 
 /// A map to write in its binary form.
@@ -76,6 +78,7 @@ struct Given {
     operands: Vec<OsString>,
     width: Option<u32>,
     json: bool,
+    quiet: bool,
     help: bool,
 }
 
@@ -92,11 +95,11 @@ fn parse_command(command: Command, words: impl Iterator<Item = OsString>) -> Res
         return Err(Failure::usage(Some(command), format!("{extra:?} is one argument too many")));
     }
     let [one, two] = [0, 1].map(|at| PathBuf::from(&given.operands[at]));
-    let json = given.json;
+    let (json, quiet) = (given.json, given.quiet);
     if command == Command::Map {
         return Ok(Request::Convert(Conversion { text: one, out: two, json }));
     }
-    Ok(Request::Launch(Launch { command, image: one, map: two, width: given.width.unwrap_or(48), json }))
+    Ok(Request::Launch(Launch { command, image: one, map: two, width: given.width.unwrap_or(48), json, quiet }))
 }
 
 /// Tells options from operands. Options may stand anywhere up to `--`; a lone `-` is a file's name.
@@ -108,6 +111,7 @@ fn sort_words(command: Command, mut words: impl Iterator<Item = OsString>) -> Re
         match word.to_str().unwrap_or("") {
             "--help" | "-h" => given.help = true,
             "--json" => given.json = true,
+            "--quiet" if command == Command::Measure => given.quiet = true,
             "--width" if takes_width => match words.next() {
                 Some(value) => set_width(command, &mut given, &value)?,
                 None => return wrong("--width needs a value: 48 or 52".into()),

@@ -7,7 +7,8 @@ tdload tries the launch of a firmware image for an Intel TDX trust domain and sh
 what the host would do, or which rule refuses it.
 
 usage: tdload plan    IMAGE MAP [--width 48|52] [--json]   the pages to add, in order
-       tdload measure IMAGE MAP [--width 48|52] [--json]   the measurement, MRTD, in hex
+       tdload measure IMAGE MAP [--width 48|52] [--json] [--quiet]
+                                                           the measurement, MRTD, in hex
        tdload hob     IMAGE MAP [--width 48|52] [--json]   the memory the guest is told of
        tdload map     TEXT OUT [--json]                    a text map to a binary one
        tdload COMMAND --help
@@ -23,9 +24,15 @@ adds it: address in hex, data offset, data length, section type, measured 0 or 1
 ";
 
 const MEASURE: &str = "\
-usage: tdload measure IMAGE MAP [--width 48|52] [--json]
+usage: tdload measure IMAGE MAP [--width 48|52] [--json] [--quiet]
 
 Prints the measurement of the launch, 48 bytes in hex: MRTD as the TDX module computes it.
+
+It is worked out in turns of 4,096 blocks of 128 bytes. Where standard error is a terminal a
+bar shows there how many are done, the padding counting as one, and is erased at the end;
+--quiet shows none. An interrupt (SIGINT) or SIGTERM lets the turn under way end: nothing is
+printed on standard output, and the command ends by that signal, which a shell shows as
+status 130 or 143. The same signal once more ends it at once.
 ";
 
 const HOB: &str = "\

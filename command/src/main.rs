@@ -7,14 +7,17 @@ mod hob;
 mod json;
 mod map;
 mod outcome;
+mod progress;
 mod report;
+mod signals;
+mod turns;
 
 use std::env;
 use std::fs;
 use std::path::Path;
 use std::process::ExitCode;
 
-use arguments::{Conversion, Launch, Request};
+use arguments::{Command, Conversion, Launch, Request};
 use outcome::{Failure, Output};
 
 /// The longest image that rule 3 lets pass.
@@ -44,9 +47,18 @@ fn try_launch(asked: &Launch) -> Result<Output, Failure> {
     let map = map::read(&asked.map)?;
     let mut plan = vec![0; tdload::PLAN_SIZE];
     let mut hob = vec![0; tdload::HOB_SIZE];
-    match tdload::launch(&image, &map.bytes, asked.width, &mut plan, &mut hob) {
-        Ok(accepted) => report::accepted(asked, &map, &accepted, &plan, &hob),
-        Err(refusal) => Ok(report::refused(asked, &map, &refusal)),
+    let begun = match tdload::begin(&image, &map.bytes, asked.width, &mut plan, &mut hob) {
+        Ok(begun) => begun,
+        Err(refusal) => return Ok(report::refused(asked, &map, &refusal)),
+    };
+    match asked.command {
+        Command::Plan => Ok(report::plan(asked, &map, &begun, &plan)),
+        Command::Hob => report::handoff(asked, &map, &begun, &hob),
+        // The measurement takes nearly all the time of a launch, and only here is it wanted.
+        _ => {
+            let measurement = turns::finish(begun.measuring, &image, &plan, !asked.quiet)?;
+            Ok(report::measurement(asked, &map, begun.blocks, &measurement))
+        }
     }
 }
 

@@ -73,7 +73,7 @@ impl Failure {
 
 /// Where standard error is closed there is nobody to tell, so a failure to write is passed over;
 /// `eprintln!` would panic.
-fn to_standard_error(text: &str) {
+pub fn to_standard_error(text: &str) {
     let _ = io::stderr().lock().write_all(text.as_bytes());
 }
 

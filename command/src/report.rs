@@ -1,8 +1,8 @@
 //! What is printed of an answer, for people and as JSON.
 
-use tdload::{Accepted, Page, Refusal};
+use tdload::{Begun, Page, Refusal};
 
-use crate::arguments::{Command, Conversion, Launch};
+use crate::arguments::{Conversion, Launch};
 use crate::hob::{self, List, Piece};
 use crate::json::{array, or_null, quoted, Object};
 use crate::map::{Map, RECORD_SIZE};
@@ -28,21 +28,32 @@ pub fn refused(asked: &Launch, map: &Map, refusal: &Refusal) -> Output {
     Output::refused(format!("{refusal}\n"), remark)
 }
 
-pub fn accepted(asked: &Launch, map: &Map, answer: &Accepted, plan: &[u8], hob: &[u8]) -> Result<Output, Failure> {
-    let pages = tdload::pages(plan, answer.pages);
-    let object = launch_object(true, map);
-    let text = match (asked.command, asked.json) {
-        (Command::Plan, false) => plan_listing(answer, pages),
-        (Command::Plan, true) => plan_object(object, answer, pages),
-        (Command::Hob, json) => {
-            let list = hob.get(..answer.hob_length).and_then(hob::read);
-            let list = list.ok_or_else(|| Failure::new("the library's hand-off list cannot be read".into()))?;
-            if json { hob_object(object, answer, &list) } else { hob_table(answer, &list) }
-        }
-        (_, false) => hex(&answer.measurement) + "\n",
-        (_, true) => measure_object(object, answer),
-    };
-    Ok(Output::accepted(text))
+pub fn plan(asked: &Launch, map: &Map, begun: &Begun, plan: &[u8]) -> Output {
+    let pages = tdload::pages(plan, begun.pages);
+    Output::accepted(if asked.json {
+        plan_object(launch_object(true, map), begun, pages)
+    } else {
+        plan_listing(begun, pages)
+    })
+}
+
+pub fn handoff(asked: &Launch, map: &Map, begun: &Begun, hob: &[u8]) -> Result<Output, Failure> {
+    let list = hob.get(..begun.hob_length).and_then(hob::read);
+    let list = list.ok_or_else(|| Failure::new("the library's hand-off list cannot be read".into()))?;
+    Ok(Output::accepted(if asked.json {
+        hob_object(launch_object(true, map), begun, &list)
+    } else {
+        hob_table(begun, &list)
+    }))
+}
+
+pub fn measurement(asked: &Launch, map: &Map, blocks: u64, measurement: &[u8]) -> Output {
+    let digits: String = measurement.iter().map(|byte| format!("{byte:02x}")).collect();
+    Output::accepted(if asked.json {
+        launch_object(true, map).value("blocks", blocks).text("measurement", &digits).finish() + "\n"
+    } else {
+        digits + "\n"
+    })
 }
 
 pub fn converted(asked: &Conversion, map: &Map) -> Output {
@@ -59,8 +70,8 @@ fn launch_object(accepted: bool, map: &Map) -> Object {
     Object::new().value("accepted", accepted).text("map_form", map.form.name())
 }
 
-fn plan_listing(answer: &Accepted, pages: impl Iterator<Item = Page>) -> String {
-    let mut text = format!("pages {} hob {} blocks {}\n", answer.pages, answer.hob_length, answer.blocks);
+fn plan_listing(begun: &Begun, pages: impl Iterator<Item = Page>) -> String {
+    let mut text = format!("pages {} hob {} blocks {}\n", begun.pages, begun.hob_length, begun.blocks);
     for page in pages {
         let Page { address, offset, length, sort, measured } = page;
         text += &format!("{address:016x} {offset} {length} {sort} {}\n", u8::from(measured));
@@ -68,7 +79,7 @@ fn plan_listing(answer: &Accepted, pages: impl Iterator<Item = Page>) -> String 
     text
 }
 
-fn plan_object(object: Object, answer: &Accepted, pages: impl Iterator<Item = Page>) -> String {
+fn plan_object(object: Object, begun: &Begun, pages: impl Iterator<Item = Page>) -> String {
     let records = pages.map(|page| {
         Object::new()
             .value("address", page.address)
@@ -79,18 +90,14 @@ fn plan_object(object: Object, answer: &Accepted, pages: impl Iterator<Item = Pa
             .finish()
     });
     let counted = object
-        .value("pages", answer.pages)
-        .value("hob_length", answer.hob_length)
-        .value("blocks", answer.blocks);
+        .value("pages", begun.pages)
+        .value("hob_length", begun.hob_length)
+        .value("blocks", begun.blocks);
     counted.value("plan", array(records)).finish() + "\n"
 }
 
-fn measure_object(object: Object, answer: &Accepted) -> String {
-    object.value("blocks", answer.blocks).text("measurement", &hex(&answer.measurement)).finish() + "\n"
-}
-
-fn hob_table(answer: &Accepted, list: &List) -> String {
-    let mut text = format!("hob {} pieces {} end {:#x}\n", answer.hob_length, list.pieces.len(), list.end);
+fn hob_table(begun: &Begun, list: &List) -> String {
+    let mut text = format!("hob {} pieces {} end {:#x}\n", begun.hob_length, list.pieces.len(), list.end);
     text += "start            end              length           type attributes what\n";
     for piece in &list.pieces {
         let Piece { start, length, resource_type, attributes } = piece;
@@ -100,7 +107,7 @@ fn hob_table(answer: &Accepted, list: &List) -> String {
     text
 }
 
-fn hob_object(object: Object, answer: &Accepted, list: &List) -> String {
+fn hob_object(object: Object, begun: &Begun, list: &List) -> String {
     let pieces = list.pieces.iter().map(|piece| {
         Object::new()
             .value("start", piece.start)
@@ -111,9 +118,5 @@ fn hob_object(object: Object, answer: &Accepted, list: &List) -> String {
             .text("what", piece.meaning())
             .finish()
     });
-    object.value("hob_length", answer.hob_length).value("end", list.end).value("pieces", array(pieces)).finish() + "\n"
-}
-
-fn hex(bytes: &[u8]) -> String {
-    bytes.iter().map(|byte| format!("{byte:02x}")).collect()
+    object.value("hob_length", begun.hob_length).value("end", list.end).value("pieces", array(pieces)).finish() + "\n"
 }

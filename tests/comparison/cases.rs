@@ -16,8 +16,8 @@ pub enum Want {
 use Want::*;
 
 pub struct Case {
-    name: &'static str,
-    draft: Draft,
+    pub name: &'static str,
+    pub draft: Draft,
     want: Want,
 }
 
@@ -37,13 +37,18 @@ pub fn page_launch() -> Draft {
     draft
 }
 
-/// Runs all cases and answers how many there are.
-pub fn run(bench: &mut Bench) -> Result<usize, String> {
+pub fn all() -> Vec<Case> {
     let mut cases = page_cases();
     cases.extend(image_bounds());
     cases.extend(map_bounds());
     cases.extend(section_bounds());
     cases.extend(whole_bounds());
+    cases
+}
+
+/// Runs all cases and answers how many there are.
+pub fn run(bench: &mut Bench) -> Result<usize, String> {
+    let cases = all();
     for case in &cases {
         let name = case.name;
         crash::name(format!("case: {name}"));

@@ -1,6 +1,7 @@
 //! One launch through both loaders, and what differs.
 
 use crate::crash;
+use crate::desk;
 use crate::draft::{Draft, Launch};
 use crate::lent::{Arena, Side};
 use crate::library;
@@ -13,7 +14,7 @@ const BESIDE: usize = 256;
 const MARK: u8 = 0x5C;
 
 const LONGEST_MAP: usize = 4 << 12;
-const LONGEST_BUFFER: usize = 1 << 20;
+pub const LONGEST_BUFFER: usize = 1 << 20;
 
 /// Where the four lent things stand, and what the buffers hold before the call.
 #[derive(Clone, Copy, Debug)]
@@ -45,6 +46,13 @@ impl Setting {
     }
 }
 
+/// What turns go on from: the plan and the first state, and the measurement that a launch answers.
+pub struct Start {
+    pub measurement: [u8; 48],
+    pub state: second::turns::State,
+    pub plan: Vec<u8>,
+}
+
 /// The lent memory of one thread of calls.
 pub struct Bench {
     pub noise: Vec<u8>,
@@ -53,6 +61,8 @@ pub struct Bench {
     plan: Arena,
     hob: Arena,
     launch: Launch,
+    /// Whether the launch is the one that is tried.
+    is_tried: bool,
     pub views: views::Views,
     settings: u64,
 }
@@ -66,6 +76,7 @@ impl Bench {
             plan: Arena::new(LONGEST_BUFFER),
             hob: Arena::new(LONGEST_BUFFER),
             launch: Launch::default(),
+            is_tried: false,
             views: views::Views::new(),
             settings: 0,
         }
@@ -75,9 +86,25 @@ impl Bench {
         &self.launch
     }
 
+    /// The launch to be reported, where it is one that fails.
+    pub fn tried(&self) -> Option<&Launch> {
+        self.is_tried.then_some(&self.launch)
+    }
+
     /// Takes a launch that was tried elsewhere for the last one, to be reported.
     pub fn show(&mut self, launch: Launch) {
         self.launch = launch;
+        self.is_tried = true;
+    }
+
+    /// Says that what comes next is no launch.
+    pub fn forget(&mut self) {
+        self.is_tried = false;
+    }
+
+    fn render(&mut self, draft: &Draft) {
+        draft.render(&self.noise, &mut self.launch);
+        self.is_tried = true;
     }
 
     /// Tries a draft in the next of the 16 settings. Answers what the second loader answers, or
@@ -88,8 +115,8 @@ impl Bench {
     }
 
     pub fn try_in(&mut self, draft: &Draft, setting: Setting) -> Result<second::Answer, String> {
-        draft.render(&self.noise, &mut self.launch);
-        let answer = self.call(setting);
+        self.render(draft);
+        let answer = self.call(library::tdload_launch, setting);
         let launch = &self.launch;
         let (expected, plan, hob) = second::launch(
             &launch.image,
@@ -98,7 +125,8 @@ impl Bench {
             launch.plan_length,
             launch.hob_length,
         );
-        self.compare(&answer, &expected, &plan, &hob, setting)?;
+        compare_answers(&answer, &expected)?;
+        self.compare_buffers(&plan, &hob, setting)?;
         if expected.refusal == 0 {
             let launch = &self.launch;
             let list = &hob[..expected.hob_length as usize];
@@ -110,6 +138,40 @@ impl Bench {
             compared?;
         }
         Ok(expected)
+    }
+
+    /// Tries a draft as a start of turns: the library's start is compared with the second loader's, and
+    /// with the library's launch, which is tried first.
+    pub fn try_start(&mut self, draft: &Draft, setting: Setting) -> Result<Start, String> {
+        self.render(draft);
+        let launched = self.call(library::tdload_launch, setting);
+        let launched_plan = self.plan.read(self.launch.plan_length, setting.plan).to_vec();
+        let launched_hob = self.hob.read(self.launch.hob_length, setting.hob).to_vec();
+        let begun = self.call(library::tdload_begin, setting);
+        let launch = &self.launch;
+        let (expected, state, plan, hob) = second::turns::begin(
+            &launch.image,
+            &launch.map,
+            launch.width,
+            launch.plan_length,
+            launch.hob_length,
+        );
+        compare_answers(&begun.answer, &expected)?;
+        desk::compare_states(begun.state, &state)?;
+        self.compare_buffers(&plan, &hob, setting)?;
+        let measurement = launched.measurement;
+        let unmeasured = library::Answer {
+            measurement: [0; 48],
+            ..launched
+        };
+        compare_answers(&unmeasured, &expected).map_err(|what| format!("as a launch: {what}"))?;
+        same_bytes("launch's plan", &launched_plan, &plan)?;
+        same_bytes("launch's HOB", &launched_hob, &hob)?;
+        Ok(Start {
+            measurement,
+            state,
+            plan,
+        })
     }
 
     /// The rules that the last rendered launch breaks, by the second loader.
@@ -124,7 +186,8 @@ impl Bench {
         )
     }
 
-    fn call(&mut self, setting: Setting) -> library::Answer {
+    /// Lends the rendered launch, and buffers full of garbage, to a launch or a start.
+    fn call<T>(&mut self, function: library::Launching<T>, setting: Setting) -> T {
         let launch = &self.launch;
         let image = self.image.write(&launch.image, setting.image);
         let map = if launch.map_in_image {
@@ -146,7 +209,7 @@ impl Bench {
         self.map.set_read_only(launch.map.len(), setting.map, true);
         crash::entering(Some(launch));
         let answer = unsafe {
-            library::tdload_launch(
+            function(
                 image,
                 launch.image.len(),
                 map,
@@ -164,15 +227,7 @@ impl Bench {
         answer
     }
 
-    fn compare(
-        &mut self,
-        answer: &library::Answer,
-        expected: &second::Answer,
-        plan: &[u8],
-        hob: &[u8],
-        setting: Setting,
-    ) -> Result<(), String> {
-        compare_answers(answer, expected)?;
+    fn compare_buffers(&mut self, plan: &[u8], hob: &[u8], setting: Setting) -> Result<(), String> {
         same_bytes("plan", self.plan.read(plan.len(), setting.plan), plan)?;
         same_bytes("HOB", self.hob.read(hob.len(), setting.hob), hob)?;
         let marked = |bytes: &[u8]| bytes.iter().all(|&byte| byte == MARK);

@@ -1,6 +1,7 @@
-//! What is said where a call does not come back, or the test itself panics: which launch it was, with
-//! its inputs as files.
+//! What is said where a call does not come back, or the test itself panics: which launch or turn it was,
+//! with its inputs as files.
 
+use crate::desk::Lent;
 use crate::draft::Launch;
 use std::fs;
 use std::panic;
@@ -31,14 +32,16 @@ extern "C" {
 struct Current {
     name: String,
     launch: *const Launch,
+    lent: *const Lent,
 }
 
-// The pointer is only followed while the launch it points to is lent.
+// The pointers are only followed while what they point to is lent.
 unsafe impl Send for Current {}
 
 static CURRENT: Mutex<Current> = Mutex::new(Current {
     name: String::new(),
     launch: std::ptr::null(),
+    lent: std::ptr::null(),
 });
 static IN_CALL: AtomicBool = AtomicBool::new(false);
 
@@ -53,17 +56,20 @@ pub fn watch() {
     }));
 }
 
-/// Names the launch, and keeps its inputs where it is one launch alone.
+/// Names the launch or the turn, and keeps its inputs where it is one alone.
 fn tell() {
     if let Ok(current) = CURRENT.try_lock() {
         println!("{}", current.name);
         if let Some(launch) = unsafe { current.launch.as_ref() } {
             keep(launch);
         }
+        if let Some(lent) = unsafe { current.lent.as_ref() } {
+            keep_lent(lent);
+        }
     }
 }
 
-/// Names the launch that comes next.
+/// Names the launch or the turn that comes next.
 pub fn name(text: String) {
     if let Ok(mut current) = CURRENT.lock() {
         current.name = text;
@@ -72,8 +78,18 @@ pub fn name(text: String) {
 
 /// Says that the library is called next, and with which launch, where it is one launch alone.
 pub fn entering(launch: Option<&Launch>) {
+    enter(launch.map_or(std::ptr::null(), |launch| launch), std::ptr::null());
+}
+
+/// Says that a turn comes next, and what it is lent.
+pub fn entering_turn(lent: &Lent) {
+    enter(std::ptr::null(), lent);
+}
+
+fn enter(launch: *const Launch, lent: *const Lent) {
     if let Ok(mut current) = CURRENT.lock() {
-        current.launch = launch.map_or(std::ptr::null(), |launch| launch);
+        current.launch = launch;
+        current.lent = lent;
     }
     unsafe { alarm(SECONDS) };
     IN_CALL.store(true, Ordering::SeqCst);
@@ -98,12 +114,8 @@ extern "C" fn caught(number: i32) {
     unsafe { _exit(1) }
 }
 
-/// Writes the launch's inputs where a reader finds them, and says how to make it again.
-pub fn keep(launch: &Launch) {
-    let files = [
-        ("compare-image.bin", &launch.image),
-        ("compare-map.bin", &launch.map),
-    ];
+/// Writes inputs where a reader finds them.
+fn keep_files(files: [(&str, &[u8]); 2]) {
     for (name, bytes) in files {
         let path = format!("{FOLDER}/{name}");
         match fs::write(&path, bytes) {
@@ -111,6 +123,22 @@ pub fn keep(launch: &Launch) {
             Err(error) => println!("{path} cannot be written: {error}"),
         }
     }
+}
+
+/// What a turn was lent. Its state and quota stand in its name.
+pub fn keep_lent(lent: &Lent) {
+    keep_files([
+        ("compare-turn-image.bin", &lent.image),
+        ("compare-turn-plan.bin", &lent.plan),
+    ]);
+}
+
+/// The launch's inputs, and how to make it again.
+pub fn keep(launch: &Launch) {
+    keep_files([
+        ("compare-image.bin", &launch.image),
+        ("compare-map.bin", &launch.map),
+    ]);
     println!(
         "width {}, a plan buffer of {} bytes, a HOB buffer of {} bytes{}",
         launch.width,

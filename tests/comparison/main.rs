@@ -1,6 +1,7 @@
 //! Compares the static library with the second loader (tests/second), which was written from page 01
-//! alone: on the page's own cases, on each two rules broken at once, on random and damaged launches,
-//! from several threads at once, and on the page view. tests/compare builds and starts it.
+//! and the rules of the measurement in turns alone: on the page's own cases, on each two rules broken at once, on random and damaged
+//! launches, from several threads at once, on the page view, and on the measurement in turns.
+//! tests/compare builds and starts it.
 
 #[path = "../second/mod.rs"]
 mod second;
@@ -8,15 +9,18 @@ mod second;
 mod cases;
 mod check;
 mod crash;
+mod desk;
 mod digest;
 mod draft;
 mod each;
+mod invented;
 mod lent;
 mod library;
 mod noise;
 mod pairs;
 mod random;
 mod threads;
+mod turns;
 mod views;
 
 use check::{Bench, Setting};
@@ -39,8 +43,9 @@ struct Wishes {
 }
 
 fn usage() -> ! {
-    println!("options: --launches N, --seed N, --only N (one random launch),");
-    println!("--part digest, cases, pairs, views, random or threads");
+    println!("options: --launches N, --seed N,");
+    println!("--only N (one random launch; behind --part turns, one random case of it),");
+    println!("--part digest, cases, pairs, views, turns, random or threads");
     exit(2)
 }
 
@@ -71,6 +76,12 @@ fn main() {
     crash::watch();
     let mut bench = Bench::new();
     if let Some(number) = wishes.only {
+        if wishes.parts == ["turns"] {
+            if let Err(what) = turns::only(&mut bench, wishes.seed, number) {
+                fail(&bench, &what);
+            }
+            return;
+        }
         match one_random(&mut bench, wishes.seed, number) {
             Ok(answer) => println!("launch {number}: both answer {}", check::shown(&answer)),
             Err(what) => fail(&bench, &what),
@@ -78,11 +89,12 @@ fn main() {
         crash::keep(bench.rendered());
         return;
     }
-    let parts: [(&str, fn(&mut Bench, &Wishes) -> Result<(), String>); 6] = [
+    let parts: [(&str, fn(&mut Bench, &Wishes) -> Result<(), String>); 7] = [
         ("digest", |_, _| digest::run()),
         ("cases", run_cases),
         ("pairs", run_pairs),
         ("views", run_views),
+        ("turns", |bench, wishes| turns::run(bench, wishes.seed)),
         ("random", run_random),
         ("threads", run_threads),
     ];
@@ -100,7 +112,9 @@ fn main() {
 
 fn fail(bench: &Bench, what: &str) -> ! {
     println!("FAILED {what}");
-    crash::keep(bench.rendered());
+    if let Some(launch) = bench.tried() {
+        crash::keep(launch);
+    }
     exit(1)
 }
 
@@ -126,6 +140,7 @@ fn run_pairs(bench: &mut Bench, _: &Wishes) -> Result<(), String> {
 }
 
 fn run_views(bench: &mut Bench, _: &Wishes) -> Result<(), String> {
+    bench.forget();
     crash::name("views: slices of many lengths".to_string());
     crash::entering(None);
     let compared = bench.views.compare_edges();

@@ -1,8 +1,8 @@
 """Mistakes for the second loader, and the run that sees each of them found (tests/compare --self-check).
 
-A mistake is a change of tests/second/mod.rs: most are ones that a loader is likely to make, such as `<` for
-`<=` at a bound or two rules in the other order. It is found where a part of the comparison ends with a
-difference; a part that goes through with a wrong loader shows nothing about the right one.
+A mistake is a change of tests/second/mod.rs or turns.rs: most are ones that a loader is likely to make, such
+as `<` for `<=` at a bound or two rules in the other order. It is found where a part of the comparison ends
+with a difference; a part that goes through with a wrong loader shows nothing about the right one.
 """
 
 import pathlib
@@ -10,7 +10,6 @@ import shutil
 import subprocess
 
 FOLDER = pathlib.Path("target", "tests", "mutated")
-PARTS = ("cases", "pairs", "views", "random")
 LAUNCHES = "20000"
 
 # What is wrong, the text in tests/second/mod.rs that stands there once, and what is put in its place.
@@ -250,25 +249,258 @@ fn cuts_stay(cut: u128, record: &Record, inside: &[&Section]) -> bool {
 """
 
 
+# Mistakes in the measurement in turns: the text stands in tests/second/turns.rs once.
+TURN_MUTATIONS = [
+    ("the padding not in the total", "total: launched.blocks + 1", "total: launched.blocks"),
+    (
+        "no total for a refused start",
+        "total: launched.blocks + 1",
+        "total: launched.blocks + u64::from(launched.refusal == 0)",
+    ),
+    (
+        "the start answers the measurement",
+        "        measurement: [0; 48],\n        ..launched",
+        "        ..launched",
+    ),
+    ("the start's place left out", "place: launched.place", "place: 0"),
+    ("the start's index left out", "index: launched.index", "index: 0"),
+    ("the start's hash value is zeros", "hash: sha384::start()", "hash: [0; 8]"),
+    ("the HOB buffer's length kept", "plan_length: plan_length as u64", "plan_length: hob_length as u64"),
+    (
+        "the plan's length kept, not the buffer's",
+        "plan_length: plan_length as u64",
+        "plan_length: 16 * launched.pages",
+    ),
+    ("24 before the launch's refusal", "if state.refusal != 0 {", "if state.refusal != 0 && quota != 0 {"),
+    (
+        "27 before the launch's refusal",
+        "if state.refusal != 0 {",
+        "if state.refusal != 0 && lent_as_at_start(state, image, plan) {",
+    ),
+    ("27 before 24", "if quota == 0 {", "if quota == 0 && lent_as_at_start(state, image, plan) {"),
+    ("the finished answer before 24", "if quota == 0 {", "if quota == 0 && state.done < state.total {"),
+    (
+        "the finished answer before 27",
+        "if image.len() as u64 != state.image_length || plan.len() as u64 != state.plan_length {",
+        "if state.done < state.total && !lent_as_at_start(state, image, plan) {",
+    ),
+    ("27 for the plan alone", "image.len() as u64 != state.image_length || ", ""),
+    ("27 for the image alone", " || plan.len() as u64 != state.plan_length", ""),
+    ("27 for both together alone", "!= state.image_length || plan", "!= state.image_length && plan"),
+    (
+        "27 for a shorter image alone",
+        "image.len() as u64 != state.image_length",
+        "(image.len() as u64) < state.image_length",
+    ),
+    (
+        "27 for a shorter plan alone",
+        "plan.len() as u64 != state.plan_length",
+        "(plan.len() as u64) < state.plan_length",
+    ),
+    (
+        "27, the image's length in 32 bits",
+        "image.len() as u64 != state.image_length",
+        "image.len() as u32 != state.image_length as u32",
+    ),
+    (
+        "27, the plan's length in 32 bits",
+        "plan.len() as u64 != state.plan_length",
+        "plan.len() as u32 != state.plan_length as u32",
+    ),
+    ("only known refusals answered", "if state.refusal != 0 {", "if (1..=19).contains(&state.refusal) {"),
+    (
+        "a refused state without its place",
+        "state.refusal, state.place, state.index",
+        "state.refusal, 0, state.index",
+    ),
+    (
+        "a refused state without its index",
+        "state.refusal, state.place, state.index",
+        "state.refusal, state.place, 0",
+    ),
+    (
+        "24 with the state's place",
+        "refused(state, NO_QUOTA, 0, 0)",
+        "refused(state, NO_QUOTA, state.place, state.index)",
+    ),
+    (
+        "27 with the state's place",
+        "refused(state, OTHER_LENGTH, 0, 0)",
+        "refused(state, OTHER_LENGTH, state.place, state.index)",
+    ),
+    ("24 for 27", "refused(state, OTHER_LENGTH", "refused(state, NO_QUOTA"),
+    ("quota off by one, a block more", "left.min(u128::from(quota))", "left.min(u128::from(quota) + 1)"),
+    ("quota off by one, a block less", "left.min(u128::from(quota))", "left.min(u128::from(quota).max(2) - 1)"),
+    ("quota in 32 bits", "u128::from(quota));", "u128::from(quota as u32));"),
+    (
+        "the padding does not count against the quota",
+        "left.min(u128::from(quota))",
+        "if left == u128::from(quota) + 1 { left } else { left.min(u128::from(quota)) }",
+    ),
+    (
+        "the padding in a turn of its own",
+        "left.min(u128::from(quota))",
+        "left.min(u128::from(quota)).min(left.max(2) - 1)",
+    ),
+    (
+        "the padding not reported",
+        "blocks: count as u64",
+        "blocks: (count - u128::from(end == total).min(count)) as u64",
+    ),
+    ("the padding twice", "total - n == 1", "total - n <= 2"),
+    ("no padding", "total - n == 1", "total - n == 0"),
+    ("the padding at each turn's end", "total - n == 1", "end - n == 1"),
+    (
+        "the measurement a block too early",
+        "measurement: if end >= total {",
+        "measurement: if end + 1 >= total {",
+    ),
+    ("the measurement of an unfinished turn", "measurement: if end >= total {", "measurement: if end > 0 {"),
+    ("zeros when asked again", "measurement: if end >= total {", "measurement: if end >= total && count > 0 {"),
+    ("zeros when done above the total", "measurement: if end >= total {", "measurement: if end == total {"),
+    ("done above the total is set back", "done: end as u64", "done: end.min(total) as u64"),
+    (
+        "the state's place is cleared",
+        "            done: end as u64,",
+        "            done: end as u64,\n            place: 0,",
+    ),
+    (
+        "the state's index is cleared",
+        "            done: end as u64,",
+        "            done: end as u64,\n            index: 0,",
+    ),
+    (
+        "the state's place is answered",
+        "place: 0,\n        index: 0,\n        blocks: count",
+        "place: state.place,\n        index: state.index,\n        blocks: count",
+    ),
+    (
+        "a refusal changes the state",
+        "        state: state.clone(),\n",
+        "        state: State { done: state.done.wrapping_add(1), ..state.clone() },\n",
+    ),
+    (
+        "a refusal answers the hash value",
+        "blocks: 0,\n        measurement: [0; 48]",
+        "blocks: 0,\n        measurement: sha384::left_most(&state.hash)",
+    ),
+    (
+        "the plan of the first turn",
+        "first_blocks(image, plan, end)",
+        "first_blocks(image, &remembered(state, plan), end)",
+    ),
+    (
+        "the image of the first turn",
+        "first_blocks(image, plan, end)",
+        "first_blocks(&remembered(state, image), plan, end)",
+    ),
+    ("blocks counted from the turn's start", "block(&stream, n)", "block(&stream, n - done)"),
+    ("block n in 32 bits", "usize::try_from(n).ok()", "usize::try_from(n % (1 << 32)).ok()"),
+    (
+        "the last block again past the plan's end",
+        'None => named(b"MEM.PAGE.ADD", 0)',
+        'None => *stream.last().unwrap_or(&named(b"MEM.PAGE.ADD", 0))',
+    ),
+    ("zeros past the plan's end", 'None => named(b"MEM.PAGE.ADD", 0)', "None => [0; 128]"),
+    (
+        "a cut record read byte by byte",
+        "    record\n}\n",
+        "    let rest = &plan[at..plan.len().min(at + RECORD)];\n"
+        "    record[..rest.len()].copy_from_slice(rest);\n    record\n}\n",
+    ),
+    ("the last whole record left out", "if at + RECORD <= plan.len() {", "if at + RECORD < plan.len() {"),
+    (
+        "plans longer than 4,096 records cut",
+        "while at < plan.len()",
+        "while at < plan.len().min(65_536)",
+    ),
+    ("byte 2 measures", "if record[15] == 1 {", "if record[15] == 1 || record[15] == 2 {"),
+    ("byte 255 measures", "if record[15] == 1 {", "if record[15] == 1 || record[15] == 255 {"),
+    ("any byte but 0 measures", "if record[15] == 1 {", "if record[15] != 0 {"),
+    ("a page without data is not measured", "if record[15] == 1 {", "if record[15] == 1 && record[14] < 2 {"),
+    ("the address not wrapped", " % (1 << 64);", ".min((1 << 64) - 1);"),
+    ("the chunk's address is the page's", "address + 256 * k as u128", "address + 0 * k as u128"),
+    ("the halves of a chunk in the other order", "chunk.chunks(128)", "chunk.chunks(128).rev()"),
+    ("a TD HOB page from the image", "view(image.len(), 0, ", "view(image.len(), image.len(), "),
+    ("type 3 from the image", "length as u16, record[14]", "length as u16, record[14] % 3"),
+    (
+        "type 255 from the image",
+        "length as u16, record[14]",
+        "length as u16, record[14].wrapping_add(1).max(1) - 1",
+    ),
+    ("a length above 4,096 cut to a page", "length as u16, record", "(length as u16).min(4096), record"),
+    (
+        "data past the image's end cut there",
+        "length as u16, record",
+        "(length as u16).min((image.len() as u128).saturating_sub(offset).min(65_535) as u16), record",
+    ),
+    ("the padding's length in bytes", "n * 128 * 8", "n * 128"),
+    ("the padding's length with the padding", "n * 128 * 8", "(n + 1) * 128 * 8"),
+    ("the padding's length in 64 bits", "n * 128 * 8", "u128::from((n * 128 * 8) as u64)"),
+    ("the padding's bytes in 64 bits", "n * 128 * 8", "u128::from((n * 128) as u64) * 8"),
+    ("the padding's length in 32 bits", "n * 128 * 8", "u128::from((n * 128 * 8) as u32)"),
+    ("the padding's first bit", "block[0] = 0x80", "block[0] = 1"),
+]
+
+TURN_MUTATIONS = [(f"turns: {name}", old, new) for name, old, new in TURN_MUTATIONS]
+
+# Called by some of them: what a wrong implementation would keep from the first turn, and the question of
+# refusal 27.
+REMEMBERED = """
+thread_local! {
+    static FIRST: std::cell::RefCell<Vec<u8>> = std::cell::RefCell::new(Vec::new());
+}
+
+fn remembered(state: &State, lent: &[u8]) -> Vec<u8> {
+    FIRST.with(|first| {
+        let mut first = first.borrow_mut();
+        if state.done == 0 || first.len() != lent.len() {
+            *first = lent.to_vec();
+        }
+        first.clone()
+    })
+}
+"""
+LENT_AS_AT_START = """
+fn lent_as_at_start(state: &State, image: &[u8], plan: &[u8]) -> bool {
+    image.len() as u64 == state.image_length && plan.len() as u64 == state.plan_length
+}
+"""
+
 # The loader sees for itself that a stream is as long as the page says. In a wrong one the comparison has to.
 OWN_CHECK = "    assert_eq!(stream.len(), 128 * (pages.len() + 48 * measured));\n"
 
+# Which file the mistakes are put into, and the parts of the comparison that are to find them.
+FILES = [
+    ("mod.rs", MUTATIONS, ("cases", "pairs", "views", "random")),
+    ("turns.rs", TURN_MUTATIONS, ("turns",)),
+]
+
 
 def mutated(text, old, new):
-    """The loader with one mistake; None where the text is not there just once."""
-    if text.count(old) != 1 or text.count(OWN_CHECK) != 1:
+    """A file of the second loader with one mistake; None where the text is not there just once."""
+    if text.count(old) != 1:
         return None
     changed = text.replace(OWN_CHECK, "").replace(old, new)
-    return changed + CUTS_STAY if "cuts_stay" in new else changed
+    for called, function in (
+        ("cuts_stay", CUTS_STAY),
+        ("remembered", REMEMBERED),
+        ("lent_as_at_start", LENT_AS_AT_START),
+    ):
+        if called in new:
+            changed += function
+    return changed
 
 
-def finding_parts(program):
+def finding_parts(program, parts):
     """The parts of the comparison that fail. Some mistakes lead the wrong loader out of its own bounds: then
-    it panics, and there is no answer to compare."""
+    it panics, and there is no answer to compare. That too few cases came up is no find."""
     found = []
-    for part in PARTS:
+    for part in parts:
         command = [program, "--part", part, "--launches", LAUNCHES]
         ended = subprocess.run(command, capture_output=True, text=True)
+        if ended.returncode == 1 and "came up fewer than" in ended.stdout:
+            continue
         if ended.returncode == 1 and "FAILED" in ended.stdout:
             found.append(f"{part} (panic)" if "panicked" in ended.stdout else part)
         elif ended.returncode != 0:
@@ -276,27 +508,34 @@ def finding_parts(program):
     return found
 
 
+def tried(build, file, text, parts):
+    """The parts that find a mistake: the program is built from copies, with this text for a file."""
+    for part in ("second", "comparison"):
+        shutil.copytree(pathlib.Path("tests", part), FOLDER / part, dirs_exist_ok=True)
+    (FOLDER / "second" / file).write_text(text)
+    build(FOLDER, FOLDER / "compare", "-C", "opt-level=1", "-A", "warnings")
+    return finding_parts(FOLDER / "compare", parts)
+
+
 def run(build, words):
     """Tries the mistakes whose name has one of the words; all where there is none."""
-    source = pathlib.Path("tests", "second", "mod.rs").read_text()
-    copy = FOLDER / "second" / "mod.rs"
     missed = []
-    for name, old, new in MUTATIONS:
-        if words and not any(word in name for word in words):
-            continue
-        text = mutated(source, old, new)
-        if text is None:
-            missed.append(name)
-            print(f"{name}: the text is not in tests/second/mod.rs just once", flush=True)
-            continue
-        for part in ("second", "comparison"):
-            shutil.copytree(pathlib.Path("tests", part), FOLDER / part, dirs_exist_ok=True)
-        copy.write_text(text)
-        build(FOLDER, FOLDER / "compare", "-C", "opt-level=1", "-A", "warnings")
-        found = finding_parts(FOLDER / "compare")
-        if not found:
-            missed.append(name)
-        print(f"{name}: {'found by ' + ', '.join(found) if found else 'NOT FOUND'}", flush=True)
+    if OWN_CHECK not in pathlib.Path("tests", "second", "mod.rs").read_text():
+        return "tests/compare --self-check: the loader's own check of the stream's length is not found"
+    for file, mutations, parts in FILES:
+        source = pathlib.Path("tests", "second", file).read_text()
+        for name, old, new in mutations:
+            if words and not any(word in name for word in words):
+                continue
+            text = mutated(source, old, new)
+            if text is None:
+                missed.append(name)
+                print(f"{name}: the text is not in tests/second/{file} just once", flush=True)
+                continue
+            found = tried(build, file, text, parts)
+            if not found:
+                missed.append(name)
+            print(f"{name}: {'found by ' + ', '.join(found) if found else 'NOT FOUND'}", flush=True)
     if missed:
         return f"tests/compare --self-check: not found: {'; '.join(missed)}"
     return 0

@@ -4,6 +4,7 @@
 //! in memory before it is hashed.
 
 pub mod sha384;
+pub mod turns;
 
 const PAGE: u128 = 4096;
 

@@ -85,6 +85,27 @@ pub fn sha384(message: &[u8]) -> [u8; 48] {
     CONSTANTS.with(|constants| hash(constants, message))
 }
 
+/// The initial hash value.
+pub fn start() -> [u64; 8] {
+    CONSTANTS.with(|constants| constants.start)
+}
+
+/// The hash value after one more block.
+pub fn after_block(hash: [u64; 8], block: &[u8; 128]) -> [u64; 8] {
+    let mut next = hash;
+    CONSTANTS.with(|constants| compress(constants, &mut next, block));
+    next
+}
+
+/// The hash value's left-most 384 bits.
+pub fn left_most(hash: &[u64; 8]) -> [u8; 48] {
+    let mut digest = [0; 48];
+    for k in 0..6 {
+        digest[8 * k..8 * k + 8].copy_from_slice(&hash[k].to_be_bytes());
+    }
+    digest
+}
+
 fn hash(constants: &Constants, message: &[u8]) -> [u8; 48] {
     let mut state = constants.start;
     let whole = message.len() / 128 * 128;
@@ -100,11 +121,7 @@ fn hash(constants: &Constants, message: &[u8]) -> [u8; 48] {
     for block in rest.chunks(128) {
         compress(constants, &mut state, block);
     }
-    let mut digest = [0; 48];
-    for k in 0..6 {
-        digest[8 * k..8 * k + 8].copy_from_slice(&state[k].to_be_bytes());
-    }
-    digest
+    left_most(&state)
 }
 
 fn compress(constants: &Constants, state: &mut [u64; 8], block: &[u8]) {

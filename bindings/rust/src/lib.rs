@@ -18,6 +18,9 @@
 //! # Ok::<(), Box<dyn std::error::Error>>(())
 //! ```
 //!
+//! A thread that has others to answer meanwhile calls [`begin`] instead and has the measurement done in
+//! turns, of as many blocks as it allows each.
+//!
 //! What the C interface asks of its callers, Rust's references already give: a slice's pointer is
 //! never null, also where it is empty, its length is at most `isize::MAX`, and what is lent to be
 //! written overlaps nothing and is seen by no other thread. So every function here is safe.
@@ -25,9 +28,11 @@
 mod plan;
 mod raw;
 mod refusal;
+mod turns;
 
 pub use plan::{pages, Page, RECORD_SIZE};
 pub use refusal::{Place, Refusal};
+pub use turns::{begin, Begun, Measuring, Turned};
 
 /// This binding's version.
 pub const VERSION: &str = "0.1.0";
@@ -78,10 +83,7 @@ pub fn launch(
             hob.len(),
         )
     };
-    if answer.refusal != 0 {
-        let place = Place::from_numbers(answer.place, answer.index);
-        return Err(Refusal { number: answer.refusal, place });
-    }
+    Refusal::unless_zero(answer.refusal, answer.place, answer.index)?;
     Ok(Accepted {
         // Both count what is in a lent slice, so they fit.
         pages: answer.pages as usize,

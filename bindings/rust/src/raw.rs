@@ -13,6 +13,38 @@ pub(crate) struct Answer {
     pub(crate) measurement: [u8; 48],
 }
 
+/// `struct tdload_state`.
+#[derive(Clone, Copy, Debug, PartialEq, Eq, Hash)]
+#[repr(C)]
+pub(crate) struct State {
+    pub(crate) hash: [u64; 8],
+    pub(crate) done: u64,
+    pub(crate) total: u64,
+    pub(crate) image_length: u64,
+    pub(crate) plan_length: u64,
+    pub(crate) refusal: u32,
+    pub(crate) place: u32,
+    pub(crate) index: u64,
+}
+
+/// `struct tdload_begun`.
+#[repr(C)]
+pub(crate) struct Begun {
+    pub(crate) answer: Answer,
+    pub(crate) state: State,
+}
+
+/// `struct tdload_turned`.
+#[repr(C)]
+pub(crate) struct Turned {
+    pub(crate) state: State,
+    pub(crate) refusal: u32,
+    pub(crate) place: u32,
+    pub(crate) index: u64,
+    pub(crate) blocks: u64,
+    pub(crate) measurement: [u8; 48],
+}
+
 /// `struct tdload_view`.
 #[repr(C)]
 pub(crate) struct View {
@@ -33,6 +65,27 @@ extern "C" {
         hob: *mut u8,
         hob_length: usize,
     ) -> Answer;
+
+    pub(crate) fn tdload_begin(
+        image: *const u8,
+        image_length: usize,
+        map: *const u8,
+        map_length: usize,
+        width: u32,
+        plan: *mut u8,
+        plan_length: usize,
+        hob: *mut u8,
+        hob_length: usize,
+    ) -> Begun;
+
+    pub(crate) fn tdload_turn(
+        state: State,
+        image: *const u8,
+        image_length: usize,
+        plan: *const u8,
+        plan_length: usize,
+        quota: u64,
+    ) -> Turned;
 
     pub(crate) fn tdload_view(
         image: *const u8,

@@ -1,4 +1,4 @@
-//! Why a launch was refused, and where.
+//! Why a launch or a turn of its measurement was refused, and where.
 
 use std::fmt;
 
@@ -43,7 +43,7 @@ impl Place {
 }
 
 /// What is wrong, by number.
-const MEANINGS: [(u32, &str); 19] = [
+const MEANINGS: [(u32, &str); 21] = [
     (1, "A lent buffer is too short: the plan needs 65,536 bytes and the hand-off list 8,192."),
     (2, "The guest address width is neither 48 nor 52."),
     (3, "The image has fewer than 32 bytes or more than 16,777,216."),
@@ -84,9 +84,12 @@ const MEANINGS: [(u32, &str); 19] = [
     (17, "The image has no TD HOB section or several, and must have exactly one."),
     (18, "The sections together take more than 4,096 pages."),
     (19, "The hand-off list is longer than the memory of the TD HOB section that has to hold it."),
+    (24, "The quota is 0: a turn must be allowed one block at least."),
+    (27, "The image or the plan has another length than at the start of the measurement."),
 ];
 
-/// The first rule that a launch breaks. Both lent buffers are zero then, over their full lengths.
+/// The first rule that a launch breaks, or what a turn of its measurement asks in vain. After a refused
+/// launch both lent buffers are zero, over their full lengths; a refused turn changes nothing.
 ///
 /// It displays as the listing has it: `refused 13 section 2`, or `refused 5` without a place.
 #[derive(Clone, Copy, Debug, PartialEq, Eq, Hash)]
@@ -99,6 +102,14 @@ pub struct Refusal {
 }
 
 impl Refusal {
+    /// From the three numbers of the C interface, of which the first is 0 where nothing is refused.
+    pub(crate) fn unless_zero(number: u32, place: u32, index: u64) -> Result<(), Refusal> {
+        match number {
+            0 => Ok(()),
+            _ => Err(Refusal { number, place: Place::from_numbers(place, index) }),
+        }
+    }
+
     /// What is wrong by the rule, in one sentence.
     pub fn meaning(&self) -> &'static str {
         let known = MEANINGS.iter().find(|(number, _)| *number == self.number);

@@ -19,6 +19,28 @@ fn launched(
     (answer, plan, hob)
 }
 
+/// The same for a launch that is to be measured in turns.
+fn begun(
+    image: &[u8],
+    width: u32,
+    plan_size: usize,
+    hob_size: usize,
+) -> (Result<Begun, Refusal>, Vec<u8>, Vec<u8>) {
+    let mut plan = vec![0xa5; plan_size];
+    let mut hob = vec![0xa5; hob_size];
+    let answer = begin(image, MAP, width, &mut plan, &mut hob);
+    (answer, plan, hob)
+}
+
+/// A measurement of the worked launch with five blocks done, its plan, and what it comes to.
+fn after_five_blocks() -> (Measuring, Vec<u8>, [u8; 48]) {
+    let measurement = launched(IMAGE, 48, PLAN_SIZE, HOB_SIZE).0.unwrap().measurement;
+    let (answer, plan, _) = begun(IMAGE, 48, PLAN_SIZE, HOB_SIZE);
+    let mut measuring = answer.unwrap().measuring;
+    assert_eq!(measuring.turn(IMAGE, &plan, 5), Ok(Turned { blocks: 5, measurement: None }));
+    (measuring, plan, measurement)
+}
+
 fn hex(bytes: &[u8]) -> String {
     bytes.iter().map(|byte| format!("{byte:02x}")).collect()
 }
@@ -60,7 +82,81 @@ fn a_refusal_has_its_place_and_leaves_zeros() {
         assert_eq!(refusal, Refusal { number, place });
         assert_eq!(refusal.to_string(), printed);
         assert!(plan.iter().chain(&hob).all(|byte| *byte == 0), "{printed}: an older plan is left");
+        let (answer, plan, hob) = begun(image, width, plan_size, hob_size);
+        assert_eq!(answer.unwrap_err(), refusal);
+        assert!(plan.iter().chain(&hob).all(|byte| *byte == 0), "{printed}: a start left an older plan");
     }
+}
+
+#[test]
+fn turns_of_any_size_come_to_the_launch() {
+    let (answer, whole_plan, whole_hob) = launched(IMAGE, 48, PLAN_SIZE + 7, HOB_SIZE + 7);
+    let accepted = answer.unwrap();
+    for quota in [1, 5, 52, 53, 1000, u64::MAX] {
+        let (answer, plan, hob) = begun(IMAGE, 48, PLAN_SIZE + 7, HOB_SIZE + 7);
+        let Begun { pages, hob_length, blocks, mut measuring } = answer.unwrap();
+        assert_eq!((pages, hob_length, blocks), (accepted.pages, accepted.hob_length, accepted.blocks));
+        assert!(plan == whole_plan && hob == whole_hob);
+        assert_eq!((measuring.done(), measuring.total()), (0, 53));
+        while !measuring.is_finished() {
+            let done = measuring.done();
+            let turned = measuring.turn(IMAGE, &plan, quota).unwrap();
+            assert_eq!(turned.blocks, quota.min(53 - done));
+            assert_eq!(measuring.done(), done + turned.blocks);
+            assert_eq!(turned.measurement, measuring.is_finished().then_some(accepted.measurement));
+        }
+        assert_eq!((measuring.done(), measuring.total()), (53, 53));
+        assert!(plan == whole_plan);
+    }
+}
+
+#[test]
+fn a_refused_turn_keeps_the_state() {
+    let (mut measuring, plan, measurement) = after_five_blocks();
+    let before = measuring.clone();
+    let (longer, shorter) = ([&plan[..], &[0]].concat(), &plan[1..]);
+    for (image, plan, quota, number) in [
+        (IMAGE, &plan[..], 0, 24),
+        (&IMAGE[1..], &plan[..], 5, 27),
+        (&[], &plan[..], 5, 27),
+        (IMAGE, &longer[..], 5, 27),
+        (IMAGE, shorter, u64::MAX, 27),
+        (IMAGE, &[], 5, 27),
+        (IMAGE, shorter, 0, 24),
+    ] {
+        let refusal = measuring.turn(image, plan, quota).unwrap_err();
+        assert_eq!(refusal, Refusal { number, place: Place::Nowhere });
+        assert_eq!(measuring, before);
+    }
+    let last = Turned { blocks: 48, measurement: Some(measurement) };
+    assert_eq!(measuring.turn(IMAGE, &plan, 1000), Ok(last));
+}
+
+#[test]
+fn a_finished_measurement_is_answered_again() {
+    let (mut measuring, plan, measurement) = after_five_blocks();
+    measuring.turn(IMAGE, &plan, u64::MAX).unwrap();
+    let finished = measuring.clone();
+    for quota in [1, 1000] {
+        let again = Turned { blocks: 0, measurement: Some(measurement) };
+        assert_eq!(measuring.turn(IMAGE, &plan, quota), Ok(again));
+        assert_eq!(measuring, finished);
+    }
+    assert_eq!(measuring.turn(IMAGE, &plan, 0).unwrap_err().number, 24);
+    assert_eq!(measuring.turn(IMAGE, &[], 1).unwrap_err().number, 27);
+    assert!(measuring.is_finished() && measuring == finished);
+}
+
+#[test]
+fn a_clone_goes_on_by_itself() {
+    let (mut one, plan, measurement) = after_five_blocks();
+    let mut other = one.clone();
+    one.turn(IMAGE, &plan, 30).unwrap();
+    assert_eq!((one.done(), other.done()), (35, 5));
+    for measuring in [&mut other, &mut one] {
+        assert_eq!(measuring.turn(IMAGE, &plan, 48).unwrap().measurement, Some(measurement));
+    }
+    assert_eq!(one, other);
 }
 
 #[test]
@@ -76,9 +172,11 @@ fn places_are_read_from_their_numbers() {
 fn every_number_has_words_of_its_own() {
     let words = |number| Refusal { number, place: Place::Nowhere }.meaning();
     assert!(words(1).contains("buffer is too short"));
-    for number in 1..=19 {
-        assert!((1..number).all(|earlier| words(earlier) != words(number)));
-        assert_ne!(words(number), words(20));
+    assert!(words(24).contains("quota is 0") && words(27).contains("another length"));
+    let known: Vec<u32> = (1..=19).chain([24, 27]).collect();
+    for (at, number) in known.iter().copied().enumerate() {
+        assert!(known[..at].iter().all(|earlier| words(*earlier) != words(number)));
+        assert_ne!(words(number), words(99));
         assert_eq!(words(number).find(". "), None, "one sentence");
         assert!(words(number).ends_with('.') && !words(number).contains("  "));
     }

@@ -4,7 +4,7 @@ use mathlib.Core.Path.{◌≡◌, refl, sym, ap, ap₂, subst, ◌∙◌}
 use mathlib.Core.List.{List, ◌++◌}
 use Prim.Native.Nat.{ℕ, zero, suc, ◌+◌, ◌-◌, ◌*◌, ◌%◌, ◌^◌, ◌≤◌, ◌<◌}
 use native.Mathlib.Omega.{arith}
-use lib.ListN.{length, take, drop}
+use lib.ListN.{length, take, drop, replicate}
 use lib.Seq.{sets}
 use borrow.Author.Tests.{eqb-true}
 use Rattle.wire.proofs.Sets.{sets-front}
@@ -35,6 +35,7 @@ use Rattle.launch.specs.declared.Layout.{Layout}
 use Rattle.launch.specs.Host.{Host, host_with}
 use Rattle.launch.specs.Rules.{handoff_length, verdict, layout_of, checked}
 use Rattle.launch.specs.Launch.{page_list, handoff_list, stream_of, accepted_answer}
+use Rattle.launch.specs.Begin.{answer_of, unmeasured}
 use Rattle.launch.proofs.Keeps.{Keeps, keeps}
 use Rattle.launch.proofs.Laid.{answers-refusal, answers-layout}
 use Rattle.launch.proofs.Order.{first-kept, ends-fit, part-few, part-long, part-start, part-section, part-sections}
@@ -188,6 +189,10 @@ module _ (m : List ℕ) (w p q : ℕ) (image : List ℕ) (l : Layout) (e : check
   list-is b c z =
       z ∙ ap₂ (λ (a : ℕ) (ss : List Section). sets b 0 (list_bytes a (pieces ss (records m)))) at_address sections-are
 
+  -- and back: what the writers were asked for
+  pub plan-from : (b c : List ℕ) → c ≡ sets b 0 (plan_bytes (page_list bare f)) → c ≡ sets b 0 (plan_bytes (pages l.handoff (up_to (section_at part) l.count)))
+  plan-from b c z = z ∙ ap (λ (ps : List Page). sets b 0 (plan_bytes ps)) (sym pages-are)
+
   module _ (b c : List ℕ) (room : length b ≡ p) (z : c ≡ sets b 0 (plan_bytes (pages l.handoff (up_to (section_at part) l.count)))) where
     pub plan-is : c ≡ sets b 0 (plan_bytes (page_list bare f))
     plan-is = z ∙ ap (λ (ps : List Page). sets b 0 (plan_bytes ps)) pages-are
@@ -209,6 +214,12 @@ module _ (m : List ℕ) (w p q : ℕ) (image : List ℕ) (l : Layout) (e : check
     counted : before c l.pages ≡ block_count ps
     counted = ap₂ before behind at-pages ∙ plan-number ps rest (pages-sized-all host f kept) (pages-volume host f kept)
 
+    pub blocks-are : (n : ℕ) → n ≡ before c l.pages → n ≡ block_count (page_list bare f)
+    blocks-are n k = k ∙ counted ∙ ap block_count (sym same)
+
+    pub blocks-from : (n : ℕ) → n ≡ block_count (page_list bare f) → n ≡ before c l.pages
+    blocks-from n k = k ∙ ap block_count same ∙ sym counted
+
     pub blocks-few : (n : ℕ) → n ≡ before c l.pages → n ≤ 2 ^ 32
     blocks-few n k = omega (arith, counted, blocks-most ps, pages-few, at-pages, (last-kept host f kept).pages, pages-counted host f kept)
 
@@ -220,3 +231,10 @@ module _ (m : List ℕ) (w p q : ℕ) (image : List ℕ) (l : Layout) (e : check
         let measured : digest ≡ sha384 (stream image (handoff_list host f) ps) =
         g ∙ ap₂ (digest_of image) behind blocks ∙ digest-is ps rest (pages-sized-all host f kept) (pages-volume host f kept) image (handoff_list host f) in
         rw (at-pages, at-handoff, blocks, measured)
+
+    -- and with zeros in the measurement's place
+    pub unmeasured-is : (n : ℕ) → n ≡ before c l.pages → answer_of l n (replicate 48 0) ≡ unmeasured (accepted_answer bare image)
+    unfolding answer_of unmeasured accepted_answer handoff_length page_list
+    unmeasured-is n k =
+        let blocks : n ≡ block_count ps = k ∙ counted in
+        rw (at-pages, at-handoff, blocks)

@@ -1,4 +1,4 @@
--- The laws of the launch: its cases computed, its rules, what the writers are handed, the launch whole, and the owner's demands.
+-- The laws of the launch: its cases computed, its rules, what the writers are handed, the launch whole and in turns, and the owner's demands.
 -- Assumes nothing.
 pub mod Cases
 pub mod Worked
@@ -7,10 +7,12 @@ pub mod Places
 pub mod Refused
 pub mod Filled
 pub mod Whole
+pub mod OneTurn
 pub mod Few
 pub mod Unique
 pub mod Demands
 pub mod Unread
+pub mod InTurns
 pub mod Shown
 pub mod Keeps
 pub mod Stage

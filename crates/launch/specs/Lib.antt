@@ -3,5 +3,7 @@ pub mod Host
 pub mod Rules
 pub mod Stages
 pub mod Launch
+pub mod Begin
 pub mod Demands
+pub mod InTurns
 pub mod Cases

@@ -1,8 +1,8 @@
-// The launch: the rules in the page's order, and what it answers.
+// The launch: the rules in the page's order, and what it answers; and the start of a launch that is measured in turns.
 
 #![tactic(auto)]
 
-ghost use Rattle.std.specs.Prelude.{◌≡◌, [], ◌+◌, ◌*◌, ◌≤◌};
+ghost use Rattle.std.specs.Prelude.{◌≡◌, [], ◌+◌, ◌*◌, ◌^◌, ◌≤◌, replicate};
 ghost use Rattle.std.proofs.Math.ListN as list;
 ghost use Rattle.std.proofs.lemmas.List.Edits.{sets};
 ghost use Rattle.verdict.specs.Turns.{in_turn};
@@ -11,13 +11,15 @@ ghost use Rattle.memory.specs.Map.{width_allowed, fault_refusal};
 ghost use Rattle.tdvf.specs.Image.{fields_of, section_count};
 ghost use Rattle.plan.specs.Plan.{plan_bytes};
 ghost use Rattle.handoff.specs.Pieces.{EndsFit};
+ghost use Rattle.measure.specs.Stream.{block_count};
 ghost use Rattle.launch.specs.Host.{host_with};
 ghost use Rattle.launch.specs.Rules.{first_rules, section_rules, checked};
 ghost use Rattle.launch.specs.Launch.{page_list, handoff_list, accepted_answer, refused_answer, answer, plan_after, handoff_after};
+ghost use Rattle.launch.specs.Begin.{answer_of, unmeasured, started_with, begun};
 ghost use Rattle.launch.specs.Stages.{fields_with, located_refusal, last_of, laid_out, checked_refusal, Sound};
 
 use handoff::{count_pieces, list_length, write_list};
-use measure::{count_blocks, measure};
+use measure::{Progress, count_blocks, measure};
 use memory::{Fault, Lies, lies_in};
 use plan::write_plan;
 use tdvf::{Located, Totals, firmware_allowed, image_refusal, locate, meet, section_at, totals_of};
@@ -36,6 +38,15 @@ pub struct Answer {
     // How many blocks of 128 bytes the measured stream has.
     pub blocks: u64,
     pub measurement: [u8; 48],
+}
+
+// What the start of a measurement in turns answers.
+#[derive(Clone, Copy)]
+pub struct Begun {
+    // The launch's answer, with zeros in the measurement's place.
+    pub answer: Answer,
+    // The state for the first turn.
+    pub progress: Progress,
 }
 
 // What the checks answer.
@@ -231,10 +242,16 @@ fn refused_answer(refusal: Refusal) -> Answer
     }
 }
 
-// Fills both buffers for a launch that breaks no rule, and measures what the plan loads.
-fn fill(image: &[u8], map: &[u8], layout: Layout, plan: &mut [u8], handoff: &mut [u8]) -> Answer
+// Fills both buffers for a launch that breaks no rule, and answers how many blocks the plan gives.
+fn write_buffers(
+    image: &[u8],
+    map: &[u8],
+    layout: Layout,
+    plan: &mut [u8],
+    handoff: &mut [u8],
+) -> u64
     requires { Sound image.now map.now layout (list.length plan.old) (list.length handoff.old) }
-    ensures answered { result ≡ accepted_answer (host_with map.now 0 0 0) image.now }
+    ensures counted { result ≡ block_count (page_list (host_with map.now 0 0 0) (fields_of image.now)) }
     ensures plan_after { plan.new ≡ sets plan.old 0 (plan_bytes (page_list (host_with map.now 0 0 0) (fields_of image.now))) }
     ensures handoff_after { handoff.new ≡ sets handoff.old 0 (handoff_list (host_with map.now 0 0 0) (fields_of image.now)) }
 {
@@ -250,8 +267,14 @@ fn fill(image: &[u8], map: &[u8], layout: Layout, plan: &mut [u8], handoff: &mut
         layout.handoff,
     );
     write_plan(plan, descriptor, count, layout.handoff);
-    let blocks = count_blocks(plan, layout.pages as usize);
-    let measurement = measure(image, plan, blocks);
+    count_blocks(plan, layout.pages as usize)
+}
+
+// The answer of a launch that breaks no rule.
+#[tactic(auto, unfolding(crate::specs::Begin::answer_of))]
+fn answer_of(layout: Layout, blocks: u64, measurement: [u8; 48]) -> Answer
+    ensures { result ≡ answer_of layout blocks measurement }
+{
     Answer {
         refusal: Refusal::Nothing,
         pages: layout.pages,
@@ -261,17 +284,88 @@ fn fill(image: &[u8], map: &[u8], layout: Layout, plan: &mut [u8], handoff: &mut
     }
 }
 
-// The launch. Both buffers are cleared first, on every path, so that no older plan can survive in them.
+// Fills both buffers for a launch that breaks no rule, and measures what the plan loads.
+fn fill(image: &[u8], map: &[u8], layout: Layout, plan: &mut [u8], handoff: &mut [u8]) -> Answer
+    requires { Sound image.now map.now layout (list.length plan.old) (list.length handoff.old) }
+    ensures answered { result ≡ accepted_answer (host_with map.now 0 0 0) image.now }
+    ensures plan_after { plan.new ≡ sets plan.old 0 (plan_bytes (page_list (host_with map.now 0 0 0) (fields_of image.now))) }
+    ensures handoff_after { handoff.new ≡ sets handoff.old 0 (handoff_list (host_with map.now 0 0 0) (fields_of image.now)) }
+{
+    let blocks = write_buffers(image, map, layout, plan, handoff);
+    let measurement = measure(image, plan, blocks);
+    answer_of(layout, blocks, measurement)
+}
+
+// Clears both buffers and then checks: on every path, so that no older plan can survive in them.
+fn clear_and_check(
+    image: &[u8],
+    map: &[u8],
+    width: u32,
+    plan: &mut [u8],
+    handoff: &mut [u8],
+) -> Checked
+    ensures checked { result ≡ checked (host_with map.now width (list.length plan.new) (list.length handoff.new)) (fields_of image.now) }
+    ensures plan_after { plan.new ≡ replicate (list.length plan.old) 0 }
+    ensures handoff_after { handoff.new ≡ replicate (list.length handoff.old) 0 }
+{
+    clear(plan);
+    clear(handoff);
+    check(image, map, width, plan.len(), handoff.len())
+}
+
+// The launch. Both buffers are cleared first.
 pub fn launch(image: &[u8], map: &[u8], width: u32, plan: &mut [u8], handoff: &mut [u8]) -> Answer
     ensures answered { result ≡ answer (host_with map.now width (list.length plan.old) (list.length handoff.old)) image.now }
     ensures plan_after { plan.new ≡ plan_after (host_with map.now width (list.length plan.old) (list.length handoff.old)) image.now }
     ensures handoff_after { handoff.new ≡ handoff_after (host_with map.now width (list.length plan.old) (list.length handoff.old)) image.now }
 {
-    clear(plan);
-    clear(handoff);
-    let checked = check(image, map, width, plan.len(), handoff.len());
+    let checked = clear_and_check(image, map, width, plan, handoff);
     let Checked::Accepted(layout) = checked else {
         return refused_answer(checked_refusal(checked));
     };
     fill(image, map, layout, plan, handoff)
+}
+
+// ---- the start of a measurement in turns
+
+// All of the launch but the measurement.
+fn prepare(image: &[u8], map: &[u8], width: u32, plan: &mut [u8], handoff: &mut [u8]) -> Answer
+    ensures answered { result ≡ unmeasured (answer (host_with map.now width (list.length plan.old) (list.length handoff.old)) image.now) }
+    ensures plan_after { plan.new ≡ plan_after (host_with map.now width (list.length plan.old) (list.length handoff.old)) image.now }
+    ensures handoff_after { handoff.new ≡ handoff_after (host_with map.now width (list.length plan.old) (list.length handoff.old)) image.now }
+{
+    let checked = clear_and_check(image, map, width, plan, handoff);
+    let Checked::Accepted(layout) = checked else {
+        return refused_answer(checked_refusal(checked));
+    };
+    let blocks = write_buffers(image, map, layout, plan, handoff);
+    answer_of(layout, blocks, [0; 48])
+}
+
+// An answer and the state for the first turn: no block is done of the stream's and the padding's.
+fn started(answer: Answer, image: u64, plan: u64) -> Begun
+    requires { answer.blocks ≤ 2 ^ 32 }
+    ensures { result ≡ started_with answer image plan }
+{
+    Begun {
+        answer,
+        progress: Progress {
+            hash: sha384::start(),
+            done: 0,
+            total: answer.blocks + 1,
+            image,
+            plan,
+            refusal: answer.refusal,
+        },
+    }
+}
+
+// The start of a measurement in turns.
+pub fn begin(image: &[u8], map: &[u8], width: u32, plan: &mut [u8], handoff: &mut [u8]) -> Begun
+    ensures begun { result ≡ begun (host_with map.now width (list.length plan.old) (list.length handoff.old)) image.now }
+    ensures plan_after { plan.new ≡ plan_after (host_with map.now width (list.length plan.old) (list.length handoff.old)) image.now }
+    ensures handoff_after { handoff.new ≡ handoff_after (host_with map.now width (list.length plan.old) (list.length handoff.old)) image.now }
+{
+    let answer = prepare(image, map, width, plan, handoff);
+    started(answer, image.len() as u64, plan.len() as u64)
 }

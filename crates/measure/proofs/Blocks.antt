@@ -1,6 +1,6 @@
 -- The blocks of a lent plan: how many each record gives, which record block n is in, and which of a page's blocks it is there.
 -- Assumes nothing.
-use Rattle.std.proofs.Common.{◌≡◌, ℕ, zero, suc, ◌+◌, ◌-◌, ◌*◌, ◌/◌, ◌%◌, ◌^◌, ◌<◌, ◌≤◌, Bool, true, false, List, [], ◌++◌, length, get_or, take, drop, sym, refl, ap, ◌∙◌, add-one, arith, length-append, get_or-append-add, eq-eqb, ne_eqb}
+use Rattle.std.proofs.Common.{◌≡◌, ℕ, zero, suc, ◌+◌, ◌-◌, ◌*◌, ◌/◌, ◌%◌, ◌^◌, ◌<◌, ◌≤◌, Bool, true, false, List, [], ◌++◌, length, get_or, take, drop, sym, refl, ap, ◌∙◌, add-zero, add-suc, add-one, arith, length-append, get_or-append-add, eq-eqb, ne_eqb}
 use native.Mathlib.Decide.{dec_le}
 use lib.ListN.{get_or-append, get_or-eq_default}
 use Rattle.wire.proofs.Number.{number_at-one}
@@ -11,7 +11,7 @@ use Rattle.plan.specs.declared.Page.{Page}
 use Rattle.plan.specs.Plan.{page_at}
 use Rattle.plan.specs.View.{content, view, held}
 use Rattle.measure.specs.Stream.{extend_tag, add_tag, head_block, chunk_blocks, extend_blocks, is_measured, page_blocks, plan_blocks, block_at, count_of, before}
-use Rattle.measure.proofs.Length.{page-blocks, held-length}
+use Rattle.measure.proofs.Length.{Blocks, blocks-append, blocks_at, page-blocks, held-length}
 use Rattle.measure.proofs.Bytes.{head-wraps}
 
 -- ---- how many blocks a record gives
@@ -75,6 +75,12 @@ unfolding before
 before-most plan zero = omega arith
 before-most plan (suc r) = omega (arith, before-most plan r, count_most plan r)
 
+-- past the plan's end each record gives one
+pub before-past : (plan : List ℕ) (r k : ℕ) → length plan / 16 ≤ r → before plan (r + k) ≡ before plan r + k
+unfolding before
+before-past plan r zero h = rw (add-zero r) (omega arith)
+before-past plan r (suc k) h = rw (add-suc r k) (omega (arith, before-past plan r k h, count_past plan (r + k) (omega arith)))
+
 -- ---- the blocks themselves
 
 module _ (image plan : List ℕ) where
@@ -91,6 +97,15 @@ module _ (image plan : List ℕ) where
   unfolding plan_blocks record_blocks
   blocks-turn r = refl
 
+  record-whole : (i : ℕ) → Blocks (record_blocks i)
+  unfolding record_blocks
+  record-whole i = let p = page_at plan i in (page-blocks p (held image [] p) (held-length image [] p)).0
+
+  turn-whole : (r : ℕ) → Blocks (in_turn record_blocks r)
+  unfolding in_turn
+  turn-whole zero = tt
+  turn-whole (suc r) = blocks-append (in_turn record_blocks r) (record_blocks r) (turn-whole r) (record-whole r)
+
   turn-count : (r : ℕ) → length (in_turn record_blocks r) ≡ before plan r
   unfolding in_turn before
   turn-count zero = refl
@@ -98,6 +113,13 @@ module _ (image plan : List ℕ) where
 
   pub plan-count : (r : ℕ) → length (plan_blocks image plan r) ≡ before plan r
   plan-count r = ap length (blocks-turn r) ∙ turn-count r
+
+  -- there is always a block n, of 128 bytes
+  pub block-length : (n : ℕ) → length (block_at image plan n) ≡ 128
+  unfolding block_at
+  block-length n =
+      ap (λ (s : List (List ℕ)). length (get_or s n [])) (blocks-turn (n + 1))
+      ∙ blocks_at (in_turn record_blocks (n + 1)) (turn-whole (n + 1)) n (omega (arith, turn-count (n + 1), before-least plan (n + 1)))
 
   -- more records begin with the blocks of fewer
   more_same : (a b n : ℕ) → a ≤ b → n < before plan a → get_or (plan_blocks image plan b) n [] ≡ get_or (plan_blocks image plan a) n []

@@ -1,22 +1,26 @@
 -- The theorem for the launch: where a plan is written from pages that fit, and what is measured has its data in the image, the
 -- digest of the lent bytes is SHA-384 of the pages' stream. Assumes nothing.
-use Rattle.std.proofs.Common.{◌≡◌, ℕ, zero, suc, ◌*◌, ◌<◌, true, List, [], ◌∷◌, ◌++◌, length, get_or, sym, refl, ap, ◌∙◌, ap₂, append_assoc, append-nil, arith}
+use Rattle.std.proofs.Common.{◌≡◌, ℕ, zero, suc, ◌+◌, ◌-◌, ◌*◌, ◌/◌, ◌<◌, true, List, [], ◌∷◌, ◌++◌, length, get_or, take, sym, refl, ap, ◌∙◌, ap₂, append_assoc, append-nil, arith}
 use Rattle.verdict.specs.Turns.{in_turn}
 use Rattle.verdict.proofs.Turns.{turn-same}
 use Rattle.verdict.proofs.Each.{Each, each-cons}
 use Rattle.sha384.specs.Constants.{H⁰}
 use Rattle.sha384.specs.declared.State.{State}
-use Rattle.sha384.specs.Hash.{finished, sha384}
+use Rattle.sha384.specs.Hash.{left384, finished, sha384}
 use Rattle.plan.specs.declared.Page.{Page}
 use Rattle.plan.specs.Plan.{page_bytes, plan_bytes, page_at}
 use Rattle.plan.specs.View.{content, held}
+use Rattle.plan.proofs.Records.{length-plan}
 use Rattle.plan.proofs.Shown.{view-volume}
 use Rattle.plan.proofs.Back.{Sized, page-front, page-behind}
 use Rattle.measure.specs.Stream.{is_measured, page_blocks, blocks_of, stream, block_count, plan_blocks, block_at, before, folded, digest_of}
+use Rattle.measure.specs.Turn.{next_block}
 use Rattle.measure.proofs.Alike.{blocks-alike}
 use Rattle.measure.proofs.Length.{blocks-of}
 use Rattle.measure.proofs.Blocks.{plan-count, block_in}
 use Rattle.measure.proofs.Folded.{folded-same, finished-joined}
+use Rattle.measure.proofs.Records.{whole-written}
+use Rattle.measure.proofs.Run.{whole_run}
 
 -- a measured page's data is in the image: its type is 0 or 1
 abbrev pub Volume : Page → Type 0
@@ -77,3 +81,14 @@ module _ (ps : List Page) (rest : List ℕ) (z : Each Sized ps) (v : Each Volume
       ap (λ (q : ℕ). finished (folded (block_at image plan) H⁰ 0 q) [] (128 * q)) (sym count)
       ∙ ap (λ (s : State). finished s [] (128 * length bs)) (folded-same (block_at image plan) (λ i. get_or bs i []) H⁰ (length bs) each)
       ∙ finished-joined bs (blocks-of image handoff ps).0
+
+-- AND IN TURNS: all blocks of the lent bytes' whole records and the padding's, from the initial hash value on, leave it too
+pub turns-digest : (ps : List Page) (rest : List ℕ) → Each Sized ps → Each Volume ps → (image handoff : List ℕ)
+    → left384 (folded (next_block image (plan_bytes ps ++ rest) (block_count ps + 1)) H⁰ 0 (block_count ps + 1)) ≡ sha384 (stream image handoff ps)
+unfolding digest_of
+turns-digest ps rest z v image handoff =
+    let bytes : List ℕ = plan_bytes ps in
+    let tail : List ℕ = take (16 * (length (bytes ++ rest) / 16) - length bytes) rest in
+    whole_run image (bytes ++ rest) (block_count ps)
+    ∙ ap (λ (plan : List ℕ). digest_of image plan (block_count ps)) (whole-written bytes rest (length ps) (length-plan ps))
+    ∙ digest-is ps tail z v image handoff

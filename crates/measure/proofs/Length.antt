@@ -19,6 +19,11 @@ pub blocks-append : (bs cs : List (List ℕ)) → Blocks bs → Blocks cs → Bl
 blocks-append [] cs h k = k
 blocks-append (b ∷ bs) cs h k = (h.0, blocks-append bs cs h.1 k)
 
+pub blocks_at : (bs : List (List ℕ)) → Blocks bs → (i : ℕ) → i < length bs → length (get_or bs i []) ≡ 128
+blocks_at [] h i l = absurd (omega arith)
+blocks_at (b ∷ bs) h zero l = h.0
+blocks_at (b ∷ bs) h (suc i) l = blocks_at bs h.1 i (omega arith)
+
 pub joined_length : (bs : List (List ℕ)) → Blocks bs → length (joined bs) ≡ 128 * length bs
 unfolding joined
 joined_length [] h = refl

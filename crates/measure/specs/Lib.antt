@@ -1,3 +1,5 @@
--- The measured stream of page 01, and what it tells. Assumes nothing.
+-- The measured stream of page 01, what it tells, and its measurement in turns. Assumes nothing.
 pub mod Stream
+pub mod Turn
+pub mod Turns
 pub mod Told

@@ -1,20 +1,23 @@
-// The measured stream, by blocks of 128 bytes, and its digest.
+// The measured stream, by blocks of 128 bytes, its digest, and its measurement in turns.
 //
 // A lent plan's bytes say which blocks there are, so the stream is never formed: a cursor names a record and a block of its
-// page, and each block is hashed as it is reached. Whoever measures in turns keeps the hash value between them.
+// page, and each block is hashed as it is reached. Between two turns only the hash value and the counts are kept; where the
+// next block stands is found anew in the plan that is lent.
 
 #![tactic(auto)]
 
-ghost use Rattle.std.specs.Prelude.{◌≡◌, ◌+◌, ◌*◌, ◌^◌, ◌<◌, ◌≤◌, min, [], length, take, drop, slice_index_or};
+ghost use Rattle.std.specs.Prelude.{◌≡◌, ◌+◌, ◌-◌, ◌*◌, ◌^◌, ◌<◌, ◌≤◌, min, [], length, take, drop, slice_index_or};
 ghost use Rattle.sha384.specs.Constants.{K};
 ghost use Rattle.sha384.specs.Hash.{compressed};
 ghost use Rattle.plan.specs.Plan.{page_at};
 ghost use Rattle.plan.specs.View.{content, held};
 ghost use Rattle.measure.specs.Stream.{head_block, page_blocks, block_at, count_of, before, folded, digest_of};
+ghost use Rattle.measure.specs.Turn.{turn_number, turn_place, next_block, answered, halted, other_lengths, turned};
 
 use plan::Page;
 use sha384::State;
 use std::num::wrapping_add_u64;
+use verdict::{Place, Refusal, number_of, place_of};
 
 // Where a block stands: block `block` of the page of record `record`.
 #[derive(Clone, Copy)]
@@ -65,15 +68,30 @@ pub fn page_at(plan: &[u8], index: usize) -> Page
     page_in(&last)
 }
 
+// The page of any record, however far past the plan's end: there it is of zeros.
+fn record_page(plan: &[u8], index: usize) -> Page
+    ensures { result ≡ page_at plan.now index }
+{
+    if plan.len() / 16 < index {
+        return Page {
+            address: 0,
+            offset: 0,
+            length: 0,
+            sort: 0,
+            measured: 0,
+        };
+    }
+    page_at(plan, index)
+}
+
 // How many blocks a record gives: the page is added, and only the byte 1 measures it.
 fn count_of(plan: &[u8], index: usize) -> usize
-    requires { index < 2 ^ 59 }
     ensures { result ≡ count_of plan.now index }
 {
-    let at = 16 * index + 15;
-    if plan.len() <= at {
+    if plan.len() / 16 <= index {
         return 1;
     }
+    let at = 16 * index + 15;
     if plan[at] == 1 {
         return 49;
     }
@@ -95,24 +113,30 @@ pub fn count_blocks(plan: &[u8], records: usize) -> u64
 }
 
 // The cursor moved on until its record has its block: from record 0 this finds a block of the stream by its number, and from
-// the block behind the last it goes on to the next. Past the plan's end each record has one block.
+// the block behind the last it goes on to the next. Past the plan's end each record has one block, so no more is read there.
 fn forward(plan: &[u8], c: Cursor) -> Cursor
-    requires { c.record + c.block < 2 ^ 59 }
+    requires { c.record + c.block < 2 ^ 64 }
     ensures { (before plan.now result.record + result.block ≡ before plan.now c.record + c.block)
         × (result.block < count_of plan.now result.record)
         × (result.record ≤ c.record + c.block) }
 {
+    let records = plan.len() / 16;
     let mut index = c.record;
     let mut block = c.block;
-    let mut count = count_of(plan, index);
-    while count <= block {
+    while index < records {
+        let count = count_of(plan, index);
+        if block < count {
+            return Cursor {
+                record: index,
+                block,
+            };
+        }
         block -= count;
         index += 1;
-        count = count_of(plan, index);
     }
     Cursor {
-        record: index,
-        block,
+        record: index + block,
+        block: 0,
     }
 }
 
@@ -149,12 +173,12 @@ fn data(state: State, shown: &[u8], at: usize, table: &[u64; 80]) -> State
 // The hash value after the block at a cursor. No HOB list is lent: what is measured is in the image. A lent plan's address may
 // be so high that a chunk's passes 2^64: it is taken modulo 2^64, as its eight bytes are.
 fn absorb_block(state: State, image: &[u8], plan: &[u8], c: Cursor, table: &[u64; 80]) -> State
-    requires stands { (c.record < 2 ^ 59) × (c.block < count_of plan.now c.record) }
+    requires stands { c.block < count_of plan.now c.record }
     requires constants { table.now ≡ K }
     ensures { result ≡ compressed state (slice_index_or (page_blocks (page_at plan.now c.record)
         (held image.now [] (page_at plan.now c.record))) c.block []) }
 {
-    let p = page_at(plan, c.record);
+    let p = record_page(plan, c.record);
     let n = c.block;
     if n == 0 {
         return sha384::block(state, &head(b"MEM.PAGE.ADD", p.address), table);
@@ -180,7 +204,7 @@ pub fn absorb(
     blocks: u64,
     table: &[u64; 80],
 ) -> State
-    requires few_blocks { from + blocks ≤ 2 ^ 32 }
+    requires few_blocks { from + blocks < 2 ^ 64 }
     requires constants { table.now ≡ K }
     ensures { result ≡ folded (block_at image.now plan.now) state from blocks }
 {
@@ -215,4 +239,172 @@ pub fn measure(image: &[u8], plan: &[u8], blocks: u64) -> [u8; 48]
     let table = sha384::table();
     let state = absorb(sha384::start(), image, plan, 0, blocks, &table);
     sha384::finish(state, &image[0..0], 128 * blocks, &table)
+}
+
+// ---- the turns
+
+// What a turn is handed and hands back.
+#[derive(Clone, Copy)]
+pub struct Progress {
+    // The hash value after the blocks that are done.
+    pub hash: State,
+    // How many blocks are done, and how many there are in all. The padding's is one of them.
+    pub done: u64,
+    pub total: u64,
+    // How long the image and the plan buffer were at the start.
+    pub image: u64,
+    pub plan: u64,
+    // The launch's refusal, or nothing.
+    pub refusal: Refusal,
+}
+
+// Why a turn was refused. `specs/Turn.antt` has the numbers.
+#[derive(Clone, Copy)]
+pub enum TurnRefusal {
+    // It was not.
+    Nothing,
+    // The launch was refused, with this.
+    Launch(Refusal),
+    // 24: the quota is 0.
+    Quota,
+    // 27: the image or the plan buffer has another length than at the start.
+    Lengths,
+}
+
+// The number of why a turn was refused; 0 where it was not.
+pub fn turn_number(refusal: TurnRefusal) -> u32
+    ensures { result ≡ turn_number refusal }
+{
+    match refusal {
+        TurnRefusal::Nothing => 0,
+        TurnRefusal::Launch(broken) => number_of(broken),
+        TurnRefusal::Quota => 24,
+        TurnRefusal::Lengths => 27,
+    }
+}
+
+// Its place: none, but for the launch's own.
+pub fn turn_place(refusal: TurnRefusal) -> Place
+    ensures { result ≡ turn_place refusal }
+{
+    match refusal {
+        TurnRefusal::Nothing => Place::Nowhere,
+        TurnRefusal::Launch(broken) => place_of(broken),
+        TurnRefusal::Quota => Place::Nowhere,
+        TurnRefusal::Lengths => Place::Nowhere,
+    }
+}
+
+// What a turn answers.
+#[derive(Clone, Copy)]
+pub struct Turned {
+    // The state for the next turn.
+    pub next: Progress,
+    pub refusal: TurnRefusal,
+    // How many blocks were done.
+    pub blocks: u64,
+    // The measurement where it is finished, else zeros.
+    pub measurement: [u8; 48],
+}
+
+// The smaller of a quota and what is left of a total.
+fn smaller(quota: u64, total: u64, done: u64) -> u64
+    ensures { result ≡ min quota (total - done) }
+{
+    if total <= done {
+        return 0;
+    }
+    let left = total - done;
+    if quota < left {
+        return quota;
+    }
+    left
+}
+
+// The hash value after the next blocks. The last of the total is the padding's, and the others are the stream's, of the plan's
+// whole records.
+fn advance(state: Progress, image: &[u8], plan: &[u8], blocks: u64) -> State
+    requires some { 0 < blocks }
+    requires left { state.done + blocks ≤ state.total }
+    ensures { result ≡ folded (next_block image.now plan.now state.total) state.hash state.done blocks }
+{
+    let table = sha384::table();
+    let whole = state.total - 1;
+    let stream = smaller(blocks, whole, state.done);
+    let end = 16 * (plan.len() / 16);
+    let value = absorb(state.hash, image, &plan[..end], state.done, stream, &table);
+    if stream == blocks {
+        return value;
+    }
+    sha384::block(value, &sha384::padding_block(whole), &table)
+}
+
+// The answer of a turn that was not refused.
+fn answered(next: Progress, blocks: u64) -> Turned
+    ensures { result ≡ answered next blocks }
+{
+    let mut measurement = [0u8; 48];
+    if next.total <= next.done {
+        measurement = sha384::leftmost(next.hash);
+    }
+    Turned {
+        next,
+        refusal: TurnRefusal::Nothing,
+        blocks,
+        measurement,
+    }
+}
+
+// The answer of a turn that was refused.
+fn halted(state: Progress, refusal: TurnRefusal) -> Turned
+    ensures { result ≡ halted state refusal }
+{
+    Turned {
+        next: state,
+        refusal,
+        blocks: 0,
+        measurement: [0; 48],
+    }
+}
+
+// Whether the image or the plan buffer has another length than at the start.
+fn other_lengths(state: Progress, image: u64, plan: u64) -> bool
+    ensures { result ≡ other_lengths state image plan }
+{
+    if image != state.image {
+        return true;
+    }
+    plan != state.plan
+}
+
+// A turn: at most `quota` blocks of the measurement. It takes every state, also one that no start and no turn gave.
+pub fn turn(state: Progress, image: &[u8], plan: &[u8], quota: u64) -> Turned
+    ensures { result ≡ turned state image.now plan.now quota }
+{
+    let refusal = state.refusal;
+    let Refusal::Nothing = refusal else {
+        return halted(state, TurnRefusal::Launch(refusal));
+    };
+    if quota == 0 {
+        return halted(state, TurnRefusal::Quota);
+    }
+    if other_lengths(state, image.len() as u64, plan.len() as u64) {
+        return halted(state, TurnRefusal::Lengths);
+    }
+    let blocks = smaller(quota, state.total, state.done);
+    if blocks == 0 {
+        return answered(state, 0);
+    }
+    let hash = advance(state, image, plan, blocks);
+    answered(
+        Progress {
+            hash,
+            done: state.done + blocks,
+            total: state.total,
+            image: state.image,
+            plan: state.plan,
+            refusal,
+        },
+        blocks,
+    )
 }

@@ -9,9 +9,11 @@ ghost use Rattle.std.proofs.Math.ListN as list;
 ghost use Rattle.sha384.specs.Hash.{sha384};
 ghost use Rattle.launch.specs.Host.{host_with};
 ghost use Rattle.launch.specs.Launch.{answer, plan_after, handoff_after};
-ghost use Rattle.tdload.specs.Outward.{place_number, place_index, outward, slice_number, viewed};
+ghost use Rattle.launch.specs.Begin.{begun};
+ghost use Rattle.tdload.specs.Outward.{place_number, place_index, outward, words_of, hash_of, state_of, progress_of, outward_begun, moved, turned_with, standing, turn_answer, slice_number, viewed};
 
-use verdict::{Place, number_of, place_of};
+use measure::{Progress, turn, turn_number, turn_place};
+use verdict::{Place, Refusal, number_of, place_of};
 
 // `struct tdload_answer` of the header, field by field; its `hob_length` is `handoff` here.
 #[repr(C)]
@@ -99,6 +101,183 @@ pub extern "C" fn tdload_launch(
 {
     outward(launch::launch(image, map, width, plan, handoff))
 }
+
+// ---- the measurement in turns
+
+// `struct tdload_state` of the header; its `image_length` and `plan_length` are `image` and `plan` here.
+#[repr(C)]
+#[derive(Clone, Copy)]
+pub struct State {
+    pub hash: [u64; 8],
+    pub done: u64,
+    pub total: u64,
+    pub image: u64,
+    pub plan: u64,
+    pub refusal: u32,
+    pub place: u32,
+    pub index: u64,
+}
+
+// `struct tdload_begun` of the header.
+#[repr(C)]
+#[derive(Clone, Copy)]
+pub struct Begun {
+    pub answer: Answer,
+    pub state: State,
+}
+
+// `struct tdload_turned` of the header.
+#[repr(C)]
+#[derive(Clone, Copy)]
+pub struct Turned {
+    pub state: State,
+    pub refusal: u32,
+    pub place: u32,
+    pub index: u64,
+    pub blocks: u64,
+    pub measurement: [u8; 48],
+}
+
+// A hash value's words.
+#[tactic(auto, unfolding(crate::specs::Outward::words_of))]
+fn words_of(hash: sha384::State) -> [u64; 8]
+    ensures { result ≡ words_of hash }
+{
+    [
+        hash.a, hash.b, hash.c, hash.d, hash.e, hash.f, hash.g, hash.h,
+    ]
+}
+
+// The hash value with these words.
+#[tactic(auto, unfolding(crate::specs::Outward::hash_of))]
+fn hash_of(words: [u64; 8]) -> sha384::State
+    ensures { result ≡ hash_of words }
+{
+    sha384::State {
+        a: words[0],
+        b: words[1],
+        c: words[2],
+        d: words[3],
+        e: words[4],
+        f: words[5],
+        g: words[6],
+        h: words[7],
+    }
+}
+
+// A state in numbers.
+fn state_of(p: Progress) -> State
+    ensures { result ≡ state_of p }
+{
+    let refusal = p.refusal;
+    let place = place_of(refusal);
+    State {
+        hash: words_of(p.hash),
+        done: p.done,
+        total: p.total,
+        image: p.image,
+        plan: p.plan,
+        refusal: number_of(refusal),
+        place: place_number(place),
+        index: place_index(place),
+    }
+}
+
+// A state that is not refused, from its numbers.
+fn progress_of(s: State) -> Progress
+    ensures { result ≡ progress_of s }
+{
+    Progress {
+        hash: hash_of(s.hash),
+        done: s.done,
+        total: s.total,
+        image: s.image,
+        plan: s.plan,
+        refusal: Refusal::Nothing,
+    }
+}
+
+// A state after a turn, which changes its hash value and its count alone.
+fn moved(s: State, p: Progress) -> State
+    ensures { result ≡ moved s p }
+{
+    State {
+        hash: words_of(p.hash),
+        done: p.done,
+        total: s.total,
+        image: s.image,
+        plan: s.plan,
+        refusal: s.refusal,
+        place: s.place,
+        index: s.index,
+    }
+}
+
+// The answer of a turn, in numbers.
+fn turned_with(s: State, t: measure::Turned) -> Turned
+    ensures { result ≡ turned_with s t }
+{
+    let refusal = t.refusal;
+    let place = turn_place(refusal);
+    let measurement = t.measurement;
+    Turned {
+        state: s,
+        refusal: turn_number(refusal),
+        place: place_number(place),
+        index: place_index(place),
+        blocks: t.blocks,
+        measurement,
+    }
+}
+
+// The answer of a refused state. Its number need not be one of the page's: a caller can make any state.
+#[tactic(auto, unfolding(crate::specs::Outward::standing))]
+fn standing(s: State) -> Turned
+    ensures { result ≡ standing s }
+{
+    Turned {
+        state: s,
+        refusal: s.refusal,
+        place: s.place,
+        index: s.index,
+        blocks: 0,
+        measurement: [0; 48],
+    }
+}
+
+// The start of a measurement in turns.
+#[unsafe(no_mangle)]
+pub extern "C" fn tdload_begin(
+    image: &[u8],
+    map: &[u8],
+    width: u32,
+    plan: &mut [u8],
+    handoff: &mut [u8],
+) -> Begun
+    ensures begun { result ≡ outward_begun (begun (host_with map.now width (list.length plan.old) (list.length handoff.old)) image.now) }
+    ensures plan_after { plan.new ≡ plan_after (host_with map.now width (list.length plan.old) (list.length handoff.old)) image.now }
+    ensures handoff_after { handoff.new ≡ handoff_after (host_with map.now width (list.length plan.old) (list.length handoff.old)) image.now }
+{
+    let begun = launch::begin(image, map, width, plan, handoff);
+    Begun {
+        answer: outward(begun.answer),
+        state: state_of(begun.progress),
+    }
+}
+
+// A turn. It takes every state.
+#[unsafe(no_mangle)]
+pub extern "C" fn tdload_turn(state: State, image: &[u8], plan: &[u8], quota: u64) -> Turned
+    ensures { result ≡ turn_answer state image.now plan.now quota }
+{
+    if state.refusal != 0 {
+        return standing(state);
+    }
+    let turned = turn(progress_of(state), image, plan, quota);
+    turned_with(moved(state, turned.next), turned)
+}
+
+// ---- the page view
 
 // Which slice a record's bytes are in, by its type.
 fn slice_number(sort: u8) -> u32

@@ -1,60 +1,34 @@
--- `launch::fill` meets its contract: what the checks answered is what the writers ask for, and what they write is what the launch makes.
+-- `launch::fill` meets its contract: what is written and counted is what the launch makes, and so is what is measured of it.
 -- Assumes nothing.
-use mathlib.Core.Path.{refl}
+use mathlib.Core.Path.{refl, ◌∙◌}
 use lib.ListN.{length}
-use Rattle.launch.proofs.Filled.{starts, few-long, ends, length-is, list-room, plan-room, pages-few, blocks-few, list-is, plan-is, answer-is}
+use Rattle.launch.specs.Begin.{answer_of}
+use Rattle.launch.proofs.Filled.{blocks-few, plan-from, blocks-from, answer-is}
 use Rattle.launch.proofs.fill.Goals as goal
 
--- the descriptor's place is in the image
-pub slice_bounds-descriptor-count : goal.slice_bounds-descriptor-count
-slice_bounds-descriptor-count c =
-    let a = c.args in
-    starts a.map.now c.requires.width (length a.plan.now) (length a.handoff.now) a.image.now a.layout c.requires.is
-
-pub slice_bounds-descriptor-start : goal.slice_bounds-descriptor-start
-slice_bounds-descriptor-start c =
-    let a = c.args in
-    starts a.map.now c.requires.width (length a.plan.now) (length a.handoff.now) a.image.now a.layout c.requires.is
-
-pub write_list-requires : goal.write_list-requires
-write_list-requires c =
+pub measure-measurement-requires : goal.measure-measurement-requires
+measure-measurement-requires c =
     let a = c.args in
     let w = c.requires.width in
     let p = length a.plan.now in
     let q = length a.handoff.now in
     let e = c.requires.is in
-    record {
-      whole_table = few-long a.map.now w p q a.image.now a.layout e;
-      ends_fit = ends a.map.now w p q a.image.now a.layout e;
-      whole_list = length-is a.map.now w p q a.image.now a.layout e;
-      room = list-room a.map.now w p q a.image.now a.layout e;
-    }
+    let b = c.write_buffers-blocks in
+    let z = plan-from a.map.now w p q a.image.now a.layout e a.plan.now b.new.plan b.ensures.plan_after in
+    blocks-few a.map.now w p q a.image.now a.layout e a.plan.now b.new.plan refl z b.result
+    (blocks-from a.map.now w p q a.image.now a.layout e a.plan.now b.new.plan refl z b.result b.ensures.counted)
 
-pub write_plan-requires : goal.write_plan-requires
-write_plan-requires c =
-    let a = c.args in
-    plan-room a.map.now c.requires.width (length a.plan.now) (length a.handoff.now) a.image.now a.layout c.requires.is
-
-pub count_blocks-blocks-requires : goal.count_blocks-blocks-requires
-count_blocks-blocks-requires c =
-    let a = c.args in
-    pages-few a.map.now c.requires.width (length a.plan.now) (length a.handoff.now) a.image.now a.layout c.requires.is
-
-pub measure-measurement-requires : goal.measure-measurement-requires
-measure-measurement-requires c =
-    let a = c.args in
-    blocks-few a.map.now c.requires.width (length a.plan.now) (length a.handoff.now) a.image.now a.layout c.requires.is
-    a.plan.now c.write_plan.new.buffer refl c.write_plan.ensures.0 c.count_blocks-blocks.result c.count_blocks-blocks.ensures
-
-pub returns : goal.returns
-returns c =
+pub returns-clause-answered : goal.returns-clause-answered
+unfolding answer_of
+returns-clause-answered c =
     let a = c.args in
     let w = c.requires.width in
     let p = length a.plan.now in
     let q = length a.handoff.now in
-    let e = c.requires.is in record {
-      answered = answer-is a.map.now w p q a.image.now a.layout e a.plan.now c.write_plan.new.buffer refl c.write_plan.ensures.0
-          c.count_blocks-blocks.result c.measure-measurement.result c.count_blocks-blocks.ensures c.measure-measurement.ensures;
-      plan_after = plan-is a.map.now w p q a.image.now a.layout e a.plan.now c.write_plan.new.buffer refl c.write_plan.ensures.0;
-      handoff_after = list-is a.map.now w p q a.image.now a.layout e a.handoff.now c.write_list.new.buffer c.write_list.ensures.written;
-    }
+    let e = c.requires.is in
+    let b = c.write_buffers-blocks in
+    let z = plan-from a.map.now w p q a.image.now a.layout e a.plan.now b.new.plan b.ensures.plan_after in
+    c.answer_of.ensures
+    ∙ answer-is a.map.now w p q a.image.now a.layout e a.plan.now b.new.plan refl z b.result c.measure-measurement.result
+    (blocks-from a.map.now w p q a.image.now a.layout e a.plan.now b.new.plan refl z b.result b.ensures.counted)
+    c.measure-measurement.ensures

@@ -19,11 +19,7 @@ loop-done-init c =
 pub absorb_block-value-requires : goal.absorb_block-value-requires
 absorb_block-value-requires c =
     let l = c.loop-done in
-    let a = c.args in
-    record {
-      stands = (omega (arith, l.invariant.1, c.requires.few_blocks, before-least a.plan.now l.c.record), l.invariant.2);
-      constants = c.requires.constants;
-    }
+    let a = c.args in record { stands = l.invariant.2; constants = c.requires.constants }
 
 pub overflow_add-c : goal.overflow_add-c
 overflow_add-c c =

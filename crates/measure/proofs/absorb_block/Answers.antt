@@ -12,11 +12,11 @@ returns-then-n-eq0 c =
     let a = c.args in
     c.block.ensures
     ∙ ap (λ (b : List ℕ). compressed a.state b)
-    (c.head.ensures ∙ at_first a.image.now a.plan.now a.c.record a.c.block c.page_at-p.result c.page_at-p.ensures c.if-n-eq0.true)
+    (c.head.ensures ∙ at_first a.image.now a.plan.now a.c.record a.c.block c.record_page-p.result c.record_page-p.ensures c.if-n-eq0.true)
 
 pub overflow_mul-chunk : goal.overflow_mul-chunk
 overflow_mul-chunk c =
-    omega (arith, count_most c.args.plan.now c.args.c.record, c.requires.stands.1)
+    omega (arith, count_most c.args.plan.now c.args.c.record, c.requires.stands)
 
 pub returns-then-place-eq0 : goal.returns-then-place-eq0
 unfolding extend_tag
@@ -25,25 +25,25 @@ returns-then-place-eq0 c =
     c.block-then-place-eq0.ensures
     ∙ ap (λ (b : List ℕ). compressed a.state b)
     (c.head-then-place-eq0.ensures
-    ∙ at_head a.image.now a.plan.now a.c.record a.c.block c.page_at-p.result c.page_at-p.ensures c.if-n-eq0.false
-    c.requires.stands.1 c.if-place-eq0.true c.wrapping_add_u64-address.result c.wrapping_add_u64-address.ensures.value)
+    ∙ at_head a.image.now a.plan.now a.c.record a.c.block c.record_page-p.result c.record_page-p.ensures c.if-n-eq0.false
+    c.requires.stands c.if-place-eq0.true c.wrapping_add_u64-address.result c.wrapping_add_u64-address.ensures.value)
 
 pub overflow_mul-chunk-2 : goal.overflow_mul-chunk-2
 overflow_mul-chunk-2 c =
-    omega (arith, count_most c.args.plan.now c.args.c.record, c.requires.stands.1)
+    omega (arith, count_most c.args.plan.now c.args.c.record, c.requires.stands)
 
 pub overflow_add-chunk : goal.overflow_add-chunk
 overflow_add-chunk c =
-    omega (arith, count_most c.args.plan.now c.args.c.record, c.requires.stands.1)
+    omega (arith, count_most c.args.plan.now c.args.c.record, c.requires.stands)
 
 pub data-requires : goal.data-requires
 data-requires c =
-    let a = c.args in record { within_page = omega (arith, count_most a.plan.now a.c.record, c.requires.stands.1); constants = c.requires.constants }
+    let a = c.args in record { within_page = omega (arith, count_most a.plan.now a.c.record, c.requires.stands); constants = c.requires.constants }
 
 pub returns : goal.returns
 returns c =
     let a = c.args in
     c.«data».ensures
     ∙ ap (λ (b : List ℕ). compressed a.state b)
-    (at-data a.image.now a.plan.now a.c.record a.c.block c.page_at-p.result c.page_at-p.ensures c.if-n-eq0.false
-    c.requires.stands.1 c.if-place-eq0.false _ c.view-shown.ensures)
+    (at-data a.image.now a.plan.now a.c.record a.c.block c.record_page-p.result c.record_page-p.ensures c.if-n-eq0.false
+    c.requires.stands c.if-place-eq0.false _ c.view-shown.ensures)

@@ -1,10 +1,10 @@
 -- `measure::count_of` meets its contract: the last byte of the record says. Assumes nothing.
-use Rattle.std.proofs.Common.{sym}
+use Rattle.std.proofs.Common.{sym, arith}
 use Rattle.measure.proofs.Blocks.{count-measured, count-other, count_past}
 use Rattle.measure.proofs.count_of.Goals as goal
 
-pub returns-then-plan-at : goal.returns-then-plan-at
-returns-then-plan-at c = sym (count_past c.args.plan.now c.args.index c.if-plan-at.true)
+pub returns-then-plan-index : goal.returns-then-plan-index
+returns-then-plan-index c = sym (count_past c.args.plan.now c.args.index (omega arith))
 
 pub returns-then-plan-at-eq1 : goal.returns-then-plan-at-eq1
 returns-then-plan-at-eq1 c =

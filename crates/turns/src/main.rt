@@ -1,0 +1,89 @@
+// Reads `image.bin` and `map.bin` in the folder that it is started in, and measures a launch of them at width 48 in turns of 1, of 5
+// and of 1,000 blocks at most. For each it prints a line with the quota, the turns and the blocks that they reported, and the measurement
+// below it. A refused launch prints the refusal's line, and an image above 65,536 bytes `too long` and nothing else.
+
+#![tactic(auto)]
+
+ghost use Rattle.std.specs.Prelude.{◌≤◌, length};
+
+use files::{print_line, print_refusal, read_file};
+use measure::{Progress, turn};
+use std::io;
+use std::io::Write;
+use verdict::Refusal;
+
+// What turns to the end came to.
+#[derive(Clone, Copy)]
+struct Run {
+    turns: u64,
+    blocks: u64,
+    measurement: [u8; 48],
+}
+
+// Measures to the end, and counts what the turns report. A turn that does nothing (24, 27) would do nothing again.
+fn finish(start: Progress, image: &[u8], plan: &[u8], quota: u64) -> Run {
+    let mut state = start;
+    let mut turns: u64 = 0;
+    let mut blocks: u64 = 0;
+    let mut measurement = [0u8; 48];
+    while state.done < state.total {
+        let turned = turn(state, image, plan, quota);
+        if turned.blocks == 0 {
+            break;
+        }
+        turns += 1;
+        blocks += turned.blocks;
+        state = turned.next;
+        measurement = turned.measurement;
+    }
+    Run {
+        turns,
+        blocks,
+        measurement,
+    }
+}
+
+fn print_labelled<R: Print>(rt: &R, label: &[u8], value: u64) -> io::Result<()>
+    requires { length label.now ≤ 8 }
+{
+    let mut line = [0u8; 28];
+    let count = text::put_labelled(&mut line, 0, label, value);
+    print_line(rt, &line, count)
+}
+
+fn print_run<R: Print>(rt: &R, quota: u64, run: Run) -> io::Result<()> {
+    print_labelled(rt, b"quota ", quota)?;
+    print_labelled(rt, b" turns ", run.turns)?;
+    print_labelled(rt, b" blocks ", run.blocks)?;
+    io::writer(rt).write_all(b"\n")?;
+    let measurement = run.measurement;
+    let mut line = [0u8; 97];
+    let count = text::put_measurement(&mut line, &measurement);
+    print_line(rt, &line, count)
+}
+
+fn print_runs<R: Print>(rt: &R, start: Progress, image: &[u8], plan: &[u8]) -> io::Result<()> {
+    let refusal = start.refusal;
+    let Refusal::Nothing = refusal else {
+        return print_refusal(rt, refusal);
+    };
+    print_run(rt, 1, finish(start, image, plan, 1))?;
+    print_run(rt, 5, finish(start, image, plan, 5))?;
+    print_run(rt, 1000, finish(start, image, plan, 1000))
+}
+
+// The image's buffer has a byte more than an image may have, so that one too long is seen. A map of 64 records has 1,536 bytes,
+// and one that the map's buffer cuts short has too many records either way.
+fn main(rt: HostRuntime) -> io::Result<()> {
+    let mut image = [0u8; 65537];
+    let length = read_file(&rt, b"image.bin", &mut image);
+    if 65536 < length {
+        return io::writer(&rt).write_all(b"too long\n");
+    }
+    let mut map = [0u8; 4096];
+    let size = read_file(&rt, b"map.bin", &mut map);
+    let mut plan = [0u8; 65536];
+    let mut handoff = [0u8; 8192];
+    let begun = launch::begin(&image[..length], &map[..size], 48, &mut plan, &mut handoff);
+    print_runs(&rt, begun.progress, &image[..length], &plan)
+}
