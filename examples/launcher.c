@@ -1,7 +1,6 @@
-/* A small launcher: tries an image against a memory map, and if it is accepted works out the measurement
-   in turns and "adds" every planned page by printing what it would hand to the TDX module, in the
-   module's order. A launcher that is more than an example has the calls of the TDX module in the places
-   of those prints, and looks after its other tenants between two turns.
+/* A small launcher: tries an image against a memory map, and if it is accepted "adds" every planned
+   page by printing what it would hand to the TDX module, in the module's order. A launcher that is
+   more than an example has the calls of the TDX module in the places of those prints.
 
        gcc -std=c11 -Iinclude -o launcher examples/launcher.c target/staticlib/libtdload.a
        ./launcher command/worked/image.bin command/worked/map.bin
@@ -18,10 +17,6 @@
 enum { LAUNCHED, REFUSED, FAILED };
 enum { IMAGE_MOST = 16777216, MAP_MOST = 64 * 24, WIDTH = 48 };
 enum { RECORD = 16, PLAN = 65536, HOB = 8192 };
-
-/* What a turn of the measurement may do before others are answered: with blocks of half a microsecond,
-   an eighth of a millisecond. */
-enum { BLOCKS_A_TURN = 256 };
 
 struct bytes {
     uint8_t *start;
@@ -53,12 +48,12 @@ static struct bytes read_file(const char *name, uint8_t *room, size_t size)
     return (struct bytes){room, length};
 }
 
-static void print_refusal(uint32_t refusal, uint32_t place, uint64_t index)
+static void print_refusal(const struct tdload_answer *answer)
 {
     static const char *const places[] = {"", " section ", " record "};
-    printf("refused %" PRIu32, refusal);
-    if (place == 1 || place == 2)
-        printf("%s%" PRIu64, places[place], index);
+    printf("refused %" PRIu32, answer->refusal);
+    if (answer->place == 1 || answer->place == 2)
+        printf("%s%" PRIu64, places[answer->place], answer->index);
     printf("\n");
 }
 
@@ -87,40 +82,21 @@ static void add_page(const uint8_t *record, struct bytes image, struct bytes lis
     printf("\n");
 }
 
-/* Where a control thread looks whether another tenant waits for an answer. */
-static void answer_others(void) {}
-
-/* The whole measurement, or a refused turn. A refused turn leaves the state as it is, so who goes on by
-   the state alone would go on for ever. */
-static struct tdload_turned measure(struct tdload_state state, struct bytes image)
-{
-    for (;;) {
-        struct tdload_turned turned = tdload_turn(state, image.start, image.length, plan, sizeof plan,
-                                                  BLOCKS_A_TURN);
-        state = turned.state;
-        if (turned.refusal != 0 || state.done >= state.total)
-            return turned;
-        answer_others();
-    }
-}
-
 static int launch(struct bytes image, struct bytes map)
 {
-    struct tdload_begun begun = tdload_begin(image.start, image.length, map.start, map.length,
-                                             WIDTH, plan, sizeof plan, hob, sizeof hob);
-    /* A refused start needs no care of its own: the first turn answers its refusal. */
-    struct tdload_turned last = measure(begun.state, image);
-    if (last.refusal != 0) {
-        print_refusal(last.refusal, last.place, last.index);
+    struct tdload_answer answer = tdload_launch(image.start, image.length, map.start, map.length,
+                                                WIDTH, plan, sizeof plan, hob, sizeof hob);
+    if (answer.refusal != 0) {
+        print_refusal(&answer);
         return REFUSED;
     }
     /* The list with its own length: bytes behind it are no part of any page. */
-    struct bytes list = {hob, (size_t)begun.answer.hob_length};
-    for (uint64_t page = 0; page < begun.answer.pages; page++)
+    struct bytes list = {hob, (size_t)answer.hob_length};
+    for (uint64_t page = 0; page < answer.pages; page++)
         add_page(plan + RECORD * page, image, list);
     printf("measurement ");
-    for (size_t at = 0; at < sizeof last.measurement; at++)
-        printf("%02x", last.measurement[at]);
+    for (size_t at = 0; at < sizeof answer.measurement; at++)
+        printf("%02x", answer.measurement[at]);
     printf("\n");
     return LAUNCHED;
 }

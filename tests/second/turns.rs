@@ -1,4 +1,4 @@
-//! The measurement in turns, for the second implementation, written from its rules alone (docs/TURNS.md). It is
+//! The measurement in turns, for the second implementation, written from the text of its request alone. It is
 //! plain and slow on purpose: a turn builds the blocks of what it is lent from the plan's first record on,
 //! up to the last that it needs, and only then passes over those that were done before.
 

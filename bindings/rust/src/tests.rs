@@ -176,6 +176,7 @@ fn every_number_has_words_of_its_own() {
     let known: Vec<u32> = (1..=19).chain([24, 27]).collect();
     for (at, number) in known.iter().copied().enumerate() {
         assert!(known[..at].iter().all(|earlier| words(*earlier) != words(number)));
+        assert_ne!(words(number), words(20));
         assert_ne!(words(number), words(99));
         assert_eq!(words(number).find(". "), None, "one sentence");
         assert!(words(number).ends_with('.') && !words(number).contains("  "));

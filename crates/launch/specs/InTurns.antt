@@ -38,7 +38,7 @@ pub record OneRun (h : Host) (image : List ℕ) (quotas : List ℕ) (q : ℕ) : 
   -- all quotas together are done, or the total where that is less; and just that was reported
   pub done : (state_after h image quotas).done ≡ min (sum quotas) ((answer h image).blocks + 1)
   pub told : reported (start h image) (lent_all image (plan_after h image) quotas) ≡ (state_after h image quotas).done
-  -- no turn is refused
+  -- one more turn, with a quota that is not 0, is not refused
   pub none : (last_turn h image quotas q).refusal ≡ Nothing
   -- "the last answer equals the measurement of one run": from the turn on that does the padding block
   pub finished : (answer h image).blocks + 1 ≤ sum quotas + q → (last_turn h image quotas q).measurement ≡ (answer h image).measurement
