@@ -53,6 +53,7 @@ fn next_of(descriptor: &[u8], count: usize, at: u64, top: u64) -> Next
 }
 
 // The lower of the two, where the section starts at `at` or above.
+#[tactic(auto, unfolding(crate::specs::Pieces::lower_of))]
 fn lower(next: Next, s: Section, at: u64) -> Next
     ensures { result ≡ lower_of next s at }
 {
@@ -68,6 +69,7 @@ fn lower(next: Next, s: Section, at: u64) -> Next
 }
 
 // The piece at `at`: the section that starts there, or else the run up to the next start.
+#[tactic(auto, unfolding(crate::specs::Pieces::piece_at))]
 pub fn piece_at(descriptor: &[u8], count: usize, at: u64, top: u64) -> Piece
     requires { (16 + 32 * count ≤ list.length descriptor.now) × (at ≤ top) }
     ensures { result ≡ piece_at (up_to (section_at descriptor.now) count) at top }

@@ -26,6 +26,9 @@ use tdvf::{Located, Totals, firmware_allowed, image_refusal, locate, meet, secti
 use verdict::{Place, Refusal};
 use wire::clear;
 
+// An image is not shorter: its offset word stands so far before its end.
+const SHORTEST_IMAGE: usize = 32;
+
 // What a launch answers. A refused one has counts of 0 and a measurement of zeros.
 #[derive(Clone, Copy)]
 pub struct Answer {
@@ -95,7 +98,7 @@ fn first(length: usize, width: u32, plan: usize, handoff: usize) -> Refusal
     if !allowed {
         return Refusal::Width(Place::Nowhere);
     }
-    if length < 32 {
+    if length < SHORTEST_IMAGE {
         return Refusal::Length(Place::Nowhere);
     }
     if 16777216 < length {

@@ -28,6 +28,9 @@ pub struct Cursor {
 
 // ---- the records
 
+// The only last byte of a record that measures its page.
+const MEASURED: u8 = 1;
+
 // The smaller of a place and a length: where a part that may start past the end starts.
 fn within(at: usize, length: usize) -> usize
     ensures { result ≡ min at length }
@@ -92,7 +95,7 @@ fn count_of(plan: &[u8], index: usize) -> usize
         return 1;
     }
     let at = 16 * index + 15;
-    if plan[at] == 1 {
+    if plan[at] == MEASURED {
         return 49;
     }
     1

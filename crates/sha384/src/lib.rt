@@ -17,6 +17,9 @@ ghost use Rattle.sha384.specs.Constants.{K, H⁰};
 ghost use Rattle.sha384.specs.Padding.{padding};
 ghost use Rattle.sha384.specs.Hash.{compressed, left384, finished, sha384};
 
+// How long what is left of a message and its padding are where one block has room for both.
+const ONE_BLOCK: usize = 128;
+
 // The eight words of a hash value, and the eight working variables of a round.
 #[derive(Clone, Copy)]
 pub struct State {
@@ -93,7 +96,7 @@ pub fn finish(state: State, left: &[u8], total: u64, table: &[u64; 80]) -> [u8; 
     let last = padding::last(left, total);
     let behind = padding::end(left.len());
     let next = block(state, &last[0..128], table);
-    if behind == 128 {
+    if behind == ONE_BLOCK {
         return padding::left_384(next);
     }
     padding::left_384(block(next, &last[128..256], table))

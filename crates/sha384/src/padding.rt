@@ -23,6 +23,7 @@ pub fn put_word(buffer: &mut [u8], at: usize, word: u64)
 }
 
 // How long the last block or two are, together, where `left` bytes of the message are left for them.
+#[tactic(auto, unfolding(crate::specs::Padding::zeros))]
 pub fn end(left: usize) -> usize
     requires { left < 128 }
     ensures { result ≡ left + 17 + zeros left }

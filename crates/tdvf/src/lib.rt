@@ -14,6 +14,9 @@ ghost use Rattle.tdvf.specs.Section.{sort_broken, attributes_broken, raw_broken,
 
 use verdict::{Place, Refusal};
 
+// "TDVF", little-endian: what a descriptor starts with.
+const SIGNATURE: u32 = 0x4656_4454;
+
 // A section, as the descriptor has it.
 #[derive(Clone, Copy)]
 pub struct Section {
@@ -113,7 +116,7 @@ fn descriptor_refusal(descriptor: &[u8], room: usize) -> Refusal
     ensures { result ≡ judge (descriptor_rules (part_of room descriptor.now)) }
 {
     // "TDVF", bytes 54 44 56 46.
-    if wire::u32_at(descriptor, 0) != 0x4656_4454 {
+    if wire::u32_at(descriptor, 0) != SIGNATURE {
         return Refusal::Signature(Place::Nowhere);
     }
     if wire::u32_at(descriptor, 8) != 1 {

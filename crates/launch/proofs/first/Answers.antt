@@ -31,9 +31,9 @@ returns-then-not-allowed c =
     let allowed : width_allowed a.width ≡ false = sym w.ensures ∙ c.if-not-allowed.true in
     rw (le-ltb a.plan 65536 (omega arith), le-ltb a.handoff 8192 (omega arith), allowed)
 
-pub returns-then-length-lt32 : goal.returns-then-length-lt32
+pub returns-then-length-lt-SHORTEST_IMAGE : goal.returns-then-length-lt-SHORTEST_IMAGE
 unfolding first_rules judge refusal_of buffers_broken width_broken length_broken
-returns-then-length-lt32 c =
+returns-then-length-lt-SHORTEST_IMAGE c =
     let a = c.args in
     let w = c.width_allowed-allowed in
     let allowed : width_allowed a.width ≡ true = sym w.ensures ∙ c.if-not-allowed.false in

@@ -8,14 +8,14 @@ use Rattle.tdvf.specs.Image.{descriptor_rules}
 use Rattle.tdvf.proofs.Descriptor.{room-kept, signature-kept, signature-broken, version-kept, version-broken}
 use Rattle.tdvf.proofs.descriptor_refusal.Goals as goal
 
-pub returns-then-u32_at-ne1180058708 : goal.returns-then-u32_at-ne1180058708
+pub returns-then-u32_at-ne-SIGNATURE : goal.returns-then-u32_at-ne-SIGNATURE
 unfolding descriptor_rules judge refusal_of
-returns-then-u32_at-ne1180058708 c =
+returns-then-u32_at-ne-SIGNATURE c =
     let d = c.args.descriptor.now in
     let room = c.args.room in
     simp (
       room-kept room d (omega arith),
-      signature-broken room d (λ e. c.if-u32_at-ne1180058708.true (c.u32_at.ensures ∙ e)),
+      signature-broken room d (λ e. c.if-u32_at-ne-SIGNATURE.true (c.u32_at.ensures ∙ e)),
     )
 
 pub returns-then-u32_at-ne1 : goal.returns-then-u32_at-ne1
@@ -25,7 +25,7 @@ returns-then-u32_at-ne1 c =
     let room = c.args.room in
     simp (
       room-kept room d (omega arith),
-      signature-kept room d (sym c.u32_at.ensures ∙ c.if-u32_at-ne1180058708.false),
+      signature-kept room d (sym c.u32_at.ensures ∙ c.if-u32_at-ne-SIGNATURE.false),
       version-broken room d (λ e. c.if-u32_at-ne1.true (c.u32_at-2.ensures ∙ e)),
     )
 
@@ -36,7 +36,7 @@ returns-then-descriptor_broken c =
     let room = c.args.room in
     simp (
       room-kept room d (omega arith),
-      signature-kept room d (sym c.u32_at.ensures ∙ c.if-u32_at-ne1180058708.false),
+      signature-kept room d (sym c.u32_at.ensures ∙ c.if-u32_at-ne-SIGNATURE.false),
       version-kept room d (sym c.u32_at-2.ensures ∙ c.if-u32_at-ne1.false),
       sym c.descriptor_broken.ensures ∙ c.if-descriptor_broken.true,
     )
@@ -48,7 +48,7 @@ returns c =
     let room = c.args.room in
     simp (
       room-kept room d (omega arith),
-      signature-kept room d (sym c.u32_at.ensures ∙ c.if-u32_at-ne1180058708.false),
+      signature-kept room d (sym c.u32_at.ensures ∙ c.if-u32_at-ne-SIGNATURE.false),
       version-kept room d (sym c.u32_at-2.ensures ∙ c.if-u32_at-ne1.false),
       sym c.descriptor_broken.ensures ∙ c.if-descriptor_broken.false,
     )
