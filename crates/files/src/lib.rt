@@ -1,4 +1,4 @@
-// What the programs share: reading a file, and printing a line.
+// What the programs share: reading the two files that a launch is made of, and printing a line.
 //
 // No contract can say what is read or printed; which line a refusal has is in the contract of `text::put_refusal`.
 
@@ -15,13 +15,12 @@ use verdict::Refusal;
 
 // The file with this name, if it can be opened. A name that is not UTF-8 names no file that can.
 fn open<R: Files>(rt: &R, path: &[u8]) -> Option<R::File> {
-    let Ok(name) = str::from_utf8(path) else {
-        return None;
-    };
+    let name = str::from_utf8(path).ok()?;
     File::open(rt, name).ok()
 }
 
 // Reads until the buffer is full, the file ends or a read fails, and answers how many bytes it read.
+// A `while`, and no `for`: what ends it is a read's answer, and std's `read_exact` does not say how far it came.
 fn read_full<R: Read>(file: &mut R, buffer: &mut [u8]) -> usize
     ensures { IsPrefixLen result buffer.new }
 {
@@ -38,25 +37,50 @@ fn read_full<R: Read>(file: &mut R, buffer: &mut [u8]) -> usize
     done
 }
 
-// Reads a file as far as the buffer goes, and answers how many bytes it read. A file that can't be opened counts as empty.
-pub fn read_file<R: Files>(rt: &R, path: &[u8], buffer: &mut [u8]) -> usize
-    ensures { IsPrefixLen result buffer.new }
+// Reads a file as far as the buffer goes, and answers the part that it read. A file that can't be opened counts as empty.
+pub fn read_file<'a, R: Files>(rt: &R, path: &[u8], buffer: &'a mut [u8]) -> &'a [u8]
+    ensures { length result.now ≤ length buffer.entry.now }
 {
     let Some(mut file) = open(rt, path) else {
-        return 0;
+        return &buffer[..0];
     };
-    read_full(&mut file, buffer)
+    let count = read_full(&mut file, buffer);
+    &buffer[..count]
 }
 
-// Prints a line that takes up the first `count` bytes of a buffer.
-pub fn print_line<R: Print>(rt: &R, line: &[u8], count: usize) -> io::Result<()>
-    requires { count ≤ length line.now }
-{
-    io::writer(rt).write_all(&line[..count])
+pub fn print_line<R: Print>(rt: &R, line: &[u8]) -> io::Result<()> {
+    io::writer(rt).write_all(line)
 }
 
-pub fn print_refusal<R: Print>(rt: &R, refusal: Refusal) -> io::Result<()> {
+pub fn print_refusal<R: Print>(rt: &R, refusal: Option<Refusal>) -> io::Result<()> {
     let mut line = [0u8; 64];
     let count = text::put_refusal(&mut line, refusal);
-    print_line(rt, &line, count)
+    print_line(rt, &line[..count])
+}
+
+pub fn print_measurement<R: Print>(rt: &R, measurement: &[u8; 48]) -> io::Result<()> {
+    let mut line = [0u8; 97];
+    let count = text::put_measurement(&mut line, measurement);
+    print_line(rt, &line[..count])
+}
+
+// Reads `image.bin` and `map.bin` in the folder that the program is started in, and runs it on them. An image above 65,536 bytes prints
+// `too long` and nothing else.
+//
+// The image's buffer has a byte more than an image may have, so that one too long is seen. A map of 64 records has 1,536 bytes,
+// and one that the map's buffer cuts short has too many records either way.
+pub fn with_inputs<R: Files + Print, F: FnOnce(&[u8], &[u8]) -> io::Result<()>>(
+    rt: &R,
+    run: F,
+) -> io::Result<()>
+    requires { (image : _) (map : _) → length image.now ≤ 65536 → length map.now ≤ 4096 → F.pre run image map }
+{
+    let mut image_buffer = [0u8; 65537];
+    let image = read_file(rt, b"image.bin", &mut image_buffer);
+    if 65536 < image.len() {
+        return print_line(rt, b"too long\n");
+    }
+    let mut map_buffer = [0u8; 4096];
+    let map = read_file(rt, b"map.bin", &mut map_buffer);
+    run(image, map)
 }

@@ -2,16 +2,16 @@
 use mathlib.Core.Path.{◌≡◌, refl, sym, ap, ◌∙◌}
 use mathlib.Core.Bool.{Bool, true, false}
 use mathlib.Core.List.{List, [], ◌∷◌, ◌++◌, append-nil, append_assoc}
-use Prim.Native.Nat.{ℕ, zero, suc, ◌+◌, ◌-◌, ◌*◌, ◌≤◌}
+use Prim.Native.Nat.{ℕ, zero, suc, ◌+◌, ◌-◌, ◌*◌, ◌≤◌, ◌<◌}
 use native.Mathlib.Omega.{arith}
 use lib.Dec.{leb}
-use lib.ListN.{length, length-append}
+use lib.ListN.{length, length-append, drop}
 use Rattle.verdict.specs.Rules.{pick}
-use Rattle.verdict.specs.Turns.{up_to}
-use Rattle.verdict.proofs.Turns.{up_to-none, up_to-more}
+use Rattle.verdict.proofs.Turns.{length-up_to}
 use Rattle.memory.specs.declared.Record.{Record}
-use Rattle.memory.specs.Map.{record_at, end}
+use Rattle.memory.specs.Map.{record_at, record_count, records, end}
 use Rattle.tdvf.specs.declared.Section.{Section}
+use Rattle.tdvf.proofs.Rest.{rest-none, rest_more}
 use Rattle.handoff.specs.declared.Piece.{Piece}
 use Rattle.handoff.specs.Pieces.{mapped_piece, piece_at, cut, most_pieces, pieces_of, pieces}
 
@@ -58,16 +58,21 @@ pieces_more ss [] r = append-nil (pieces_of ss r)
 pieces_more ss (x ∷ rs) r =
     ap (λ (t : List Piece). pieces_of ss x ++ t) (pieces_more ss rs r) ∙ sym (append_assoc (pieces_of ss x) (pieces ss rs) (pieces_of ss r))
 
-pub count_none : (ss : List Section) (map : List ℕ) → 0 ≡ length (pieces ss (up_to (record_at map) 0))
-unfolding pieces
-count_none ss map = ap (λ (rs : List Record). length (pieces ss rs)) (sym (up_to-none (record_at map)))
+-- ---- the records from a place on
 
-pub count-more : (ss : List Section) (map : List ℕ) (i : ℕ)
-    → length (pieces ss (up_to (record_at map) i)) + length (pieces_of ss (record_at map i)) ≡ length (pieces ss (up_to (record_at map) (i + 1)))
-count-more ss map i =
-    sym (ap (λ (rs : List Record). length (pieces ss rs)) (up_to-more (record_at map) i)
-    ∙ ap length (pieces_more ss (up_to (record_at map) i) (record_at map i))
-    ∙ length-append (pieces ss (up_to (record_at map) i)) (pieces_of ss (record_at map i)))
+module _ (ss : List Section) (map : List ℕ) where
+  pub records-over : (k : ℕ) → record_count map ≤ k → pieces ss (drop k (records map)) ≡ []
+  unfolding pieces records
+  records-over k h = ap (pieces ss) (rest-none (record_at map) (record_count map) k h)
+
+  pub records_next : (k : ℕ) → k < record_count map
+      → pieces ss (drop k (records map)) ≡ pieces_of ss (record_at map k) ++ pieces ss (drop (k + 1) (records map))
+  unfolding pieces records
+  records_next k h = ap (pieces ss) (rest_more (record_at map) (record_count map) k h)
+
+pub records-length : (map : List ℕ) → length (records map) ≡ record_count map
+unfolding records
+records-length map = length-up_to (record_at map) (record_count map)
 
 -- a coarse bound, by which no count wraps: proofs/Most has the page's
 pub pieces-few : (ss : List Section) (rs : List Record) → length ss ≤ 32 → length (pieces ss rs) ≤ 65 * length rs

@@ -1,17 +1,15 @@
 -- Cutting a record of RAM: the next section, the piece, and the pieces one after the other. Assumes nothing.
-use mathlib.Core.Path.{◌≡◌, refl, sym, ap, ◌∙◌}
+use mathlib.Core.Path.{◌≡◌, refl, sym, ap, ap₂, ◌∙◌}
 use mathlib.Core.Bool.{Bool, true, false, ◌&&◌}
 use mathlib.Core.List.{List, [], ◌∷◌}
 use Prim.Native.Nat.{ℕ, zero, suc, ◌+◌, ◌-◌, ◌≤◌, ◌<◌, min}
 use native.Mathlib.Numerals.{sub-one}
 use native.Mathlib.Omega.{arith}
 use lib.Dec.{leb, ltb}
-use lib.ListN.{length, drop}
+use lib.ListN.{length, get_or, drop}
 use lib.Seq.{drop-cons, drop-length}
 use borrow.Author.Tests.{le-leb, lt-leb, leb-true, leb-false, ltb-true, eq-eqb, ne_eqb}
-use Rattle.verdict.specs.Turns.{up_to}
 use Rattle.verdict.specs.Rules.{pick}
-use Rattle.verdict.proofs.Turns.{length-up_to, get_or-up_to}
 use Rattle.tdvf.specs.declared.Section.{Section}
 use Rattle.handoff.specs.declared.Next.{Next}
 use Rattle.handoff.specs.declared.Piece.{Piece}
@@ -19,21 +17,22 @@ use Rattle.handoff.specs.Pieces.{section_piece, run_piece, lower_of, next_of, pi
 
 -- ---- the sections from the last down
 
-module _ (f : ℕ → Section) (n at top : ℕ) where
-  pub next-none : record { start = top; size = 0 } ≡ next_of (drop n (up_to f n)) at top
+module _ (ss : List Section) (at top : ℕ) where
+  pub next-none : record { start = top; size = 0 } ≡ next_of (drop (length ss) ss) at top
   unfolding next_of
-  next-none = ap (λ (ss : List Section). next_of ss at top) (sym (ap (λ (k : ℕ). drop k (up_to f n)) (sym (length-up_to f n)) ∙ drop-length (up_to f n)))
+  next-none = ap (λ (l : List Section). next_of l at top) (sym (drop-length ss))
 
   -- one section more, in front
-  pub next_more : (k : ℕ) → 0 < k → k ≤ n → lower_of (next_of (drop k (up_to f n)) at top) (f (k - 1)) at ≡ next_of (drop (k - 1) (up_to f n)) at top
+  pub next_more : (k : ℕ) (s : Section) → 0 < k → k ≤ length ss → s ≡ get_or ss (k - 1) s
+      → lower_of (next_of (drop k ss) at top) s at ≡ next_of (drop (k - 1) ss) at top
   unfolding next_of
-  next_more k h l =
+  next_more k s h l e =
       let i : ℕ = k - 1 in
-      let e : suc i ≡ k = omega arith in
-      sym (ap (λ (ss : List Section). next_of ss at top)
-      (drop-cons (up_to f n) i (f i) (omega (arith, length-up_to f n))
-      ∙ ap (λ (s : Section). s ∷ drop (suc i) (up_to f n)) (get_or-up_to f n i (f i) (omega arith))
-      ∙ ap (λ (m : ℕ). f i ∷ drop m (up_to f n)) e))
+      let n : suc i ≡ k = omega arith in
+      sym (ap (λ (l : List Section). next_of l at top)
+      (drop-cons ss i s (omega arith)
+      ∙ ap (λ (t : Section). t ∷ drop (suc i) ss) (sym e)
+      ∙ ap (λ (m : ℕ). s ∷ drop m ss) n))
 
 -- the next start is where it is looked for: at `at` or above, and not above `top`
 pub next-high : (ss : List Section) (at top : ℕ) → (next_of ss at top).start ≤ top
@@ -102,11 +101,12 @@ cut-past steps ss a top = by (leb top a) refl
         let h : a < top = leb-false top a e in
         ap (λ (x : ℕ). cut steps ss x top) (omega arith)
 
--- one piece more is counted
-pub cut-count : (steps : ℕ) (ss : List Section) (at at' top : ℕ) (p : Piece) → 0 < steps → at < top → p ≡ piece_at ss at top → at' ≡ min (at + p.length) top
-    → length (cut steps ss at top) ≡ 1 + length (cut (steps - 1) ss at' top)
-cut-count steps ss at at' top p l h e q =
-    let there : at + p.length ≡ at + (piece_at ss at top).length = ap (λ (r : Piece). at + r.length) e in
-    let rest : cut (steps - 1) ss at' top ≡ cut (steps - 1) ss (at + (piece_at ss at top).length) top =
-    ap (λ (x : ℕ). cut (steps - 1) ss x top) q ∙ cut-past (steps - 1) ss (at + p.length) top ∙ ap (λ (x : ℕ). cut (steps - 1) ss x top) there in
-    ap length (cut-more steps ss at top l h) ∙ omega (arith, ap length rest)
+-- the next piece, known by equations, and those behind it
+pub cut_turn : (steps : ℕ) (ss : List Section) (at at' top : ℕ) (p : Piece) → 0 < steps → at < top → p ≡ piece_at ss at top → at' ≡ min (at + p.length) top
+    → cut steps ss at top ≡ p ∷ cut (steps - 1) ss at' top
+cut_turn steps ss at at' top p l h e q =
+    cut-more steps ss at top l h
+    ∙ ap₂ (λ (x : Piece) (r : List Piece). x ∷ r) (sym e)
+    (ap (λ (x : Piece). cut (steps - 1) ss (at + x.length) top) (sym e)
+    ∙ sym (cut-past (steps - 1) ss (at + p.length) top)
+    ∙ ap (λ (x : ℕ). cut (steps - 1) ss x top) (sym q))

@@ -1,12 +1,12 @@
 -- The definitions of the hand-off list computed. Assumes nothing.
 use mathlib.Core.Path.{◌≡◌, refl}
-use mathlib.Core.List.{[], ◌∷◌}
+use mathlib.Core.List.{[], ◌∷◌, map}
 use Prim.Native.Nat.{ℕ}
 use lib.ListN as list
 use Rattle.wire.specs.Number.{le, number_at}
 use Rattle.memory.specs.declared.Record.{Record}
 use Rattle.tdvf.specs.declared.Section.{Section}
-use Rattle.handoff.specs.Pieces.{section_piece, run_piece, lower_of, next_of, piece_at, cut, pieces_of, pieces}
+use Rattle.handoff.specs.Pieces.{resource_type, resource_attributes, piece_numbers, section_piece, run_piece, lower_of, next_of, piece_at, cut, pieces_of, pieces}
 use Rattle.handoff.specs.List.{first_block, piece_block, last_block, piece_blocks, list_length, list_bytes}
 
 abbrev memory_of : ℕ → ℕ → Section
@@ -28,9 +28,9 @@ unfolding pieces pieces_of cut lower_of next_of piece_at
 cut-at-the-start = refl
 
 -- "An MMIO record is one piece, type 1, attributes 0x403. Firmware records give none"
-pub by_kind : pieces [] (record_of 0x1000 0x1000 2 ∷ record_of 0x2000 0x1000 3 ∷ [])
-    ≡ record { resource = 1; attributes = 0x403; start = 0x2000; length = 0x1000 } ∷ []
-unfolding pieces pieces_of cut lower_of next_of piece_at
+pub by_kind : map piece_numbers (pieces [] (record_of 0x1000 0x1000 2 ∷ record_of 0x2000 0x1000 3 ∷ []))
+    ≡ (1 ∷ 0x403 ∷ 0x2000 ∷ 0x1000 ∷ []) ∷ []
+unfolding resource_type resource_attributes pieces pieces_of cut lower_of next_of piece_at
 by_kind = refl
 
 -- each block is as long as it says
@@ -47,10 +47,12 @@ unfolding last_block le
 last-is = refl
 
 -- "Section pieces have resource type 0, runs have type 7 (unaccepted), both with attributes 7"
-pub section-is : section_piece 1 2 ≡ record { resource = 0; attributes = 7; start = 1; length = 2 }
+pub section-is : piece_numbers (section_piece 1 2) ≡ 0 ∷ 7 ∷ 1 ∷ 2 ∷ []
+unfolding resource_type resource_attributes
 section-is = refl
 
-pub run_is : run_piece 1 2 ≡ record { resource = 7; attributes = 7; start = 1; length = 2 }
+pub run_is : piece_numbers (run_piece 1 2) ≡ 7 ∷ 7 ∷ 1 ∷ 2 ∷ []
+unfolding resource_type resource_attributes
 run_is = refl
 
 -- the address just past a list with no piece, whose section is at 0x9000

@@ -2,6 +2,7 @@
 use Rattle.std.specs.Prelude.{List, [], ◌∷◌, ◌++◌, ℕ, ◌+◌, ◌*◌, length, replicate}
 use Rattle.wire.specs.Number.{le}
 use Rattle.handoff.specs.declared.Piece.{Piece}
+use Rattle.handoff.specs.Pieces.{resource_type, resource_attributes}
 
 -- "Each block starts with type (2), length (2), zero (4)"
 abbrev pub block_head : ℕ → ℕ → List ℕ
@@ -15,7 +16,7 @@ first_block past = block_head 1 56 ++ (le 4 9 ++ (le 4 0 ++ (le 8 0 ++ (le 8 0 +
 unfoldable pub piece_block : Piece → List ℕ
 piece_block p =
     block_head 3 48
-    ++ (replicate 16 0 ++ (le 4 p.resource ++ (le 4 p.attributes ++ (le 8 p.start ++ le 8 p.length))))
+    ++ (replicate 16 0 ++ (le 4 (resource_type p.resource) ++ (le 4 (resource_attributes p.resource) ++ (le 8 p.start ++ le 8 p.length))))
 
 -- "Last: type 0xFFFF, length 8"
 unfoldable pub last_block : List ℕ

@@ -6,19 +6,36 @@ use Rattle.verdict.specs.Rules.{pick}
 use Rattle.memory.specs.declared.Record.{Record}
 use Rattle.memory.specs.Map.{record_at, record_count, end}
 use Rattle.tdvf.specs.declared.Section.{Section}
+use Rattle.handoff.specs.declared.Resource.{Resource}
+use Rattle.handoff.specs.declared.Resource.TheVariants.{Memory, Mapped, Unaccepted}
 use Rattle.handoff.specs.declared.Piece.{Piece}
 use Rattle.handoff.specs.declared.Next.{Next}
 
+-- the page's resource type and attributes of what a piece is
+unfoldable pub resource_type : Resource → ℕ
+resource_type Memory = 0
+resource_type Mapped = 1
+resource_type Unaccepted = 7
+
+unfoldable pub resource_attributes : Resource → ℕ
+resource_attributes Memory = 7
+resource_attributes Mapped = 0x403
+resource_attributes Unaccepted = 7
+
+-- a piece in the page's numbers: "resource type (4), attributes (4), start (8), length (8)"
+abbrev pub piece_numbers : Piece → List ℕ
+piece_numbers p = resource_type p.resource ∷ resource_attributes p.resource ∷ p.start ∷ p.length ∷ []
+
 -- "Section pieces have resource type 0, runs have type 7 (unaccepted), both with attributes 7"
 abbrev pub section_piece : ℕ → ℕ → Piece
-section_piece start size = record { resource = 0; attributes = 7; start = start; length = size }
+section_piece start size = record { resource = Memory; start = start; length = size }
 
 abbrev pub run_piece : ℕ → ℕ → Piece
-run_piece start size = record { resource = 7; attributes = 7; start = start; length = size }
+run_piece start size = record { resource = Unaccepted; start = start; length = size }
 
 -- "An MMIO record is one piece, type 1, attributes 0x403"
 abbrev pub mapped_piece : Record → Piece
-mapped_piece r = record { resource = 1; attributes = 0x403; start = r.start; length = r.length }
+mapped_piece r = record { resource = Mapped; start = r.start; length = r.length }
 
 -- the lower of the two starts, where the section starts at `at` or above
 unfoldable pub lower_of : Next → Section → ℕ → Next

@@ -6,13 +6,11 @@ use mathlib.Core.List.{List}
 use Prim.Native.Nat.{ℕ, ◌+◌, ◌^◌, ◌≤◌, ◌<◌}
 use native.Mathlib.Omega.{arith}
 use borrow.Author.Tests.{ltb-false, not-false, eqb-true}
-use Rattle.verdict.specs.declared.Refusal.TheVariants.{Nothing}
-use Rattle.verdict.specs.Refusal.{number}
+use Rattle.std.specs.Prelude.{Ok}
 use Rattle.verdict.specs.Turns.{up_to}
 use Rattle.verdict.specs.Rules.{judge}
 use Rattle.verdict.proofs.Turns.{in-up_to, up_to-of}
-use Rattle.verdict.proofs.Rules.{nothing-number, judge-both}
-use Rattle.memory.specs.declared.Fault.TheVariants as fault
+use Rattle.verdict.proofs.Rules.{ok-kept, judge-both}
 use Rattle.memory.specs.Map.{record_at, record_count, records, inside, map_tried, first_fault}
 use Rattle.memory.specs.Map as over
 use Rattle.memory.proofs.Broken.{top-low}
@@ -38,7 +36,7 @@ use Rattle.launch.proofs.Order.{no-fault, first-kept}
 pub accepted-keeps : (h : Host) (image : List ℕ) → accepted h image ≡ true → Keeps h (fields_of image)
 unfolding accepted
 accepted-keeps h image e =
-    keeps h (fields_of image) ((nothing-number (verdict h (fields_of image))).0 (eqb-true (number (verdict h (fields_of image))) 0 e))
+    keeps h (fields_of image) ((ok-kept (verdict h (fields_of image))).0 e)
 
 -- ---- each section
 
@@ -89,7 +87,7 @@ last-kept h f kept =
 
 -- ---- the map
 
-pub map-faultless : (h : Host) (f : Fields) → Keeps h f → first_fault (map_tried h.width h.map) ≡ fault.Nothing
+pub map-faultless : (h : Host) (f : Fields) → Keeps h f → first_fault (map_tried h.width h.map) ≡ Ok tt
 map-faultless h f kept = no-fault (first_fault (map_tried h.width h.map)) (map-judged h.width h.map ∙ kept.map)
 
 pub map-kept : (h : Host) (f : Fields) → Keeps h f → KeptMap h.width h.map
@@ -97,7 +95,7 @@ map-kept h f kept = kept_map h.width h.map (map-faultless h f kept)
 
 -- ---- the descriptor and the hand-off list
 
-pub sections-few : (f : Fields) → judge (descriptor_rules f) ≡ Nothing → section_count f.descriptor ≤ 32
+pub sections-few : (f : Fields) → judge (descriptor_rules f) ≡ Ok tt → section_count f.descriptor ≤ 32
 sections-few f kept =
     let found = located-at f f.offset (section_count f.descriptor) (located-found f kept) in found.few
 

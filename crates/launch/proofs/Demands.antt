@@ -6,11 +6,12 @@ use mathlib.Core.List.{List, Memᴰ}
 use Prim.Native.Nat.{ℕ, ◌-◌, ◌*◌, ◌<◌}
 use native.Mathlib.Omega.{arith}
 use lib.ListN.{length, get_or, replicate}
-use Rattle.verdict.specs.declared.Refusal.TheVariants.{Nothing}
+use Rattle.std.specs.Prelude.{Ok}
+use Rattle.std.specs.Result.{result_err}
 use Rattle.verdict.specs.Turns.{up_to}
 use Rattle.verdict.proofs.Turns.{up_to-of}
 use Rattle.verdict.proofs.Each.{each-up_to}
-use Rattle.verdict.proofs.Rules.{either}
+use Rattle.verdict.proofs.Rules.{either, none-refused}
 use Rattle.memory.specs.Map.{record_at, record_count, records, end}
 use Rattle.memory.proofs.Inside.{inside-meaning}
 use Rattle.tdvf.specs.Image.{Fields, fields_of, section_count, section_at, sections}
@@ -42,7 +43,7 @@ use Rattle.launch.proofs.Whole.{accepts}
 -- ---- an answer without a refusal is that of an accepted launch
 
 module _ (h : Host) (image : List ℕ) where
-  refused-verdict : accepted h image ≡ false → (answer h image).refusal ≡ verdict h (fields_of image)
+  refused-verdict : accepted h image ≡ false → (answer h image).refusal ≡ result_err (verdict h (fields_of image))
   unfolding refused_answer
   refused-verdict e = rw (refused.refused-answer h image e)
 
@@ -52,11 +53,11 @@ module _ (h : Host) (image : List ℕ) where
     where
       step : Accepts h image → (accepted h image ≡ true) ⊎ (accepted h image ≡ false) → accepted h image ≡ true
       step e (inl a) = a
-      step e (inr b) = accepts h image (sym (refused-verdict b) ∙ e)
+      step e (inr b) = accepts h image (none-refused (verdict h (fields_of image)) (sym (refused-verdict b) ∙ e))
 
 -- ---- demand 1
 
-first-broken : (h : Host) (f : Fields) → (verdict h f ≡ Nothing → ⊥) → FirstBroken (rules h f) (verdict h f)
+first-broken : (h : Host) (f : Fields) → (verdict h f ≡ Ok tt → ⊥) → FirstBroken (rules h f) (result_err (verdict h f))
 unfolding verdict
 first-broken h f n =
     let t = verdict-first h f n in

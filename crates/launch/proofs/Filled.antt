@@ -4,20 +4,21 @@ use mathlib.Core.Path.{◌≡◌, refl, sym, ap, ap₂, subst, ◌∙◌}
 use mathlib.Core.List.{List, ◌++◌}
 use Prim.Native.Nat.{ℕ, zero, suc, ◌+◌, ◌-◌, ◌*◌, ◌%◌, ◌^◌, ◌≤◌, ◌<◌}
 use native.Mathlib.Omega.{arith}
-use lib.ListN.{length, take, drop, replicate}
+use lib.ListN.{length, take, drop, replicate, get_or}
 use lib.Seq.{sets}
 use borrow.Author.Tests.{eqb-true}
 use Rattle.wire.proofs.Sets.{sets-front}
-use Rattle.verdict.specs.declared.Refusal.TheVariants.{Nothing}
+use Rattle.std.specs.Prelude.{Ok, None}
+use Rattle.std.specs.List.{All}
 use Rattle.verdict.specs.Turns.{up_to}
+use Rattle.verdict.proofs.Turns.{length-up_to, get_or-up_to}
 use Rattle.verdict.proofs.Each.{Each, each-up_to}
-use Rattle.verdict.proofs.Rules.{nothing?}
+use Rattle.verdict.proofs.Rules.{and-found}
 use Rattle.memory.specs.Map.{records}
 use Rattle.tdvf.specs.declared.Section.{Section}
-use Rattle.tdvf.specs.declared.Located.TheVariants.{At}
 use Rattle.tdvf.specs.Image.{Fields, fields_of, section_count, section_at, sections, located}
 use Rattle.tdvf.specs.Section.{pages_in_all, handoff_section}
-use Rattle.tdvf.proofs.Descriptor.{located-found}
+use Rattle.tdvf.proofs.Descriptor.{at, located-found}
 use Rattle.tdvf.proofs.Kept.{Attributes}
 use Rattle.plan.specs.declared.Page.{Page}
 use Rattle.plan.specs.Plan.{Fits, page_of, pages, plan_bytes}
@@ -30,34 +31,25 @@ use Rattle.measure.specs.Stream.{stream, block_count, before, digest_of}
 use Rattle.measure.proofs.Length.{blocks-most}
 use Rattle.measure.proofs.Launch.{Volume, plan-number, digest-is}
 use Rattle.sha384.specs.Hash.{sha384}
-use Rattle.launch.specs.declared.Checked.TheVariants.{Accepted}
 use Rattle.launch.specs.declared.Layout.{Layout}
 use Rattle.launch.specs.Host.{Host, host_with}
 use Rattle.launch.specs.Rules.{handoff_length, verdict, layout_of, checked}
 use Rattle.launch.specs.Launch.{page_list, handoff_list, stream_of, accepted_answer}
 use Rattle.launch.specs.Begin.{answer_of, unmeasured}
 use Rattle.launch.proofs.Keeps.{Keeps, keeps}
-use Rattle.launch.proofs.Laid.{answers-refusal, answers-layout}
 use Rattle.launch.proofs.Order.{first-kept, ends-fit, part-few, part-long, part-start, part-section, part-sections}
 use Rattle.launch.proofs.Accepted.{section-kept, section-fits, last-kept, map-faultless, list-short, list-low}
 
 -- ---- the layout that the checks answer
 
 pub record Lays (h : Host) (f : Fields) (l : Layout) : Type 0 where
-  pub none : verdict h f ≡ Nothing
+  pub none : verdict h f ≡ Ok tt
   pub is : l ≡ layout_of h f
 
-pub lays : (h : Host) (f : Fields) (l : Layout) → checked h f ≡ Accepted l → Lays h f l
+pub lays : (h : Host) (f : Fields) (l : Layout) → checked h f ≡ Ok l → Lays h f l
 unfolding checked
-lays h f l e = step (nothing? (verdict h f))
-  where
-    step : Dec (verdict h f ≡ Nothing) → Lays h f l
-    step (yes k) =
-        let same : Accepted (layout_of h f) ≡ Accepted l = sym (answers-layout (verdict h f) (layout_of h f) k) ∙ e in
-        record { none = k; is = cc }
-    step (no n) =
-        let other = sym (answers-refusal (verdict h f) (layout_of h f) n) ∙ e in
-        absurd (let z : ◌≡◌ {A = ℕ} 0 1 = cc in omega arith)
+lays h f l e =
+    let both = and-found (verdict h f) (layout_of h f) l e in record { none = both.0; is = sym both.1 }
 
 -- ---- the pages
 
@@ -101,7 +93,7 @@ module _ (h : Host) (f : Fields) (kept : Keeps h f) where
 
 -- ---- the writers, by what the checks answered
 
-module _ (m : List ℕ) (w p q : ℕ) (image : List ℕ) (l : Layout) (e : checked (host_with m w p q) (fields_of image) ≡ Accepted l) where
+module _ (m : List ℕ) (w p q : ℕ) (image : List ℕ) (l : Layout) (e : checked (host_with m w p q) (fields_of image) ≡ Ok l) where
   abbrev host : Host
   host = host_with m w p q
 
@@ -134,69 +126,73 @@ module _ (m : List ℕ) (w p q : ℕ) (image : List ℕ) (l : Layout) (e : check
   unfolding layout_of
   at_address = ap (λ (k : Layout). k.address) laid.is
 
-  at : located f ≡ At l.offset l.count
-  at = located-found f kept.descriptor ∙ ap₂ At (sym at_offset) (sym at_count)
+  here-is : located f ≡ Ok (at l.offset l.count)
+  here-is = located-found f kept.descriptor ∙ ap₂ (λ (d n : ℕ). Ok (at d n)) (sym at_offset) (sym at_count)
 
   -- the part of the image from the descriptor on
   abbrev part : List ℕ
   part = take (length image - l.offset) (drop l.offset image)
 
   pub starts : l.offset ≤ length image
-  starts = part-start image l.offset l.count at
+  starts = part-start image l.offset l.count here-is
 
   pub few-long : (l.count ≤ 32) × (16 + 32 * l.count ≤ length part)
-  few-long = (part-few image l.offset l.count at, part-long image l.offset l.count at)
+  few-long = (part-few image l.offset l.count here-is, part-long image l.offset l.count here-is)
 
   sections-are : up_to (section_at part) l.count ≡ sections f
-  sections-are = part-sections image l.offset l.count at
+  sections-are = part-sections image l.offset l.count here-is
 
   pub ends : EndsFit m
   ends = ends-fit w m (first-kept host f kept.first).width (map-faultless host f kept)
-
-  pub length-is : l.handoff ≡ list_length (pieces (up_to (section_at part) l.count) (records m))
-  unfolding handoff_length
-  length-is = at-handoff ∙ ap (λ (ss : List Section). list_length (pieces ss (records m))) (sym sections-are)
 
   pub list-room : (l.handoff ≤ q) × (l.address + l.handoff < 2 ^ 64)
   list-room =
       (omega (arith, at-handoff, list-short host f kept, (first-kept host f kept.first).handoff), omega (arith, at-handoff, at_address, list-low host f kept))
 
-  pub plan-room : (16 + 32 * l.count ≤ length part) × (16 * pages_in_all (up_to (section_at part) l.count) ≤ p) × (l.handoff ≤ 2 ^ 32)
-      × ((k : ℕ) → k < l.count → Fits (section_at part k))
-  plan-room = (
-    few-long.1,
-    omega (arith, ap pages_in_all sections-are, (last-kept host f kept).pages, (first-kept host f kept.first).plan),
-    omega (arith, at-handoff, list-fits host f kept),
-    λ k b.
-        subst Fits (sym (part-section image l.offset l.count at k b)) (section-fits host f k kept (omega (arith, at_count))),
-  )
-
   pub pages-few : l.pages ≤ 2 ^ 32
   pages-few = omega (arith, at-pages, pages-counted host f kept, (last-kept host f kept).pages)
 
-  -- ---- what they write, with a host of which the map alone is known
+  -- ---- the table that the code makes of that part
 
   abbrev bare : Host
   bare = host_with m 0 0 0
 
-  pages-are : pages l.handoff (up_to (section_at part) l.count) ≡ page_list bare f
-  unfolding page_list handoff_length
-  pages-are = ap₂ pages at-handoff sections-are
+  module _ (t : List Section) (is : t ≡ up_to (section_at part) l.count) where
+    table-is : t ≡ sections f
+    table-is = is ∙ sections-are
 
-  pub list-is : (b c : List ℕ) → c ≡ sets b 0 (list_bytes l.address (pieces (up_to (section_at part) l.count) (records m)))
-      → c ≡ sets b 0 (handoff_list bare f)
-  unfolding handoff_list
-  list-is b c z =
-      z ∙ ap₂ (λ (a : ℕ) (ss : List Section). sets b 0 (list_bytes a (pieces ss (records m)))) at_address sections-are
+    pub table-few : length t ≤ 32
+    table-few = omega (arith, ap length is, length-up_to (section_at part) l.count, few-long.0)
 
-  -- and back: what the writers were asked for
-  pub plan-from : (b c : List ℕ) → c ≡ sets b 0 (plan_bytes (page_list bare f)) → c ≡ sets b 0 (plan_bytes (pages l.handoff (up_to (section_at part) l.count)))
-  plan-from b c z = z ∙ ap (λ (ps : List Page). sets b 0 (plan_bytes ps)) (sym pages-are)
+    pub table-list : l.handoff ≡ list_length (pieces t (records m))
+    unfolding handoff_length
+    table-list = at-handoff ∙ ap (λ (ss : List Section). list_length (pieces ss (records m))) (sym table-is)
 
-  module _ (b c : List ℕ) (room : length b ≡ p) (z : c ≡ sets b 0 (plan_bytes (pages l.handoff (up_to (section_at part) l.count)))) where
-    pub plan-is : c ≡ sets b 0 (plan_bytes (page_list bare f))
-    plan-is = z ∙ ap (λ (ps : List Page). sets b 0 (plan_bytes ps)) pages-are
+    pub table-room : 16 * pages_in_all t ≤ p
+    table-room = omega (arith, ap pages_in_all table-is, (last-kept host f kept).pages, (first-kept host f kept.first).plan)
 
+    pub handoff-low : l.handoff ≤ 2 ^ 32
+    handoff-low = omega (arith, at-handoff, list-fits host f kept)
+
+    pub table-fits : All Fits t
+    table-fits k d b =
+        let c : k < l.count = omega (arith, ap length is, length-up_to (section_at part) l.count) in
+        let here : get_or t k d ≡ section_at f.descriptor k =
+        ap (λ (ss : List Section). get_or ss k d) is ∙ get_or-up_to (section_at part) l.count k d c ∙ part-section image l.offset l.count here-is k c in
+        subst Fits (sym here) (section-fits host f k kept (omega (arith, at_count)))
+
+    -- what is written of it, with a host of which the map alone is known
+    pub list-is : (b c : List ℕ) → c ≡ sets b 0 (list_bytes l.address (pieces t (records m))) → c ≡ sets b 0 (handoff_list bare f)
+    unfolding handoff_list
+    list-is b c z = z ∙ ap₂ (λ (a : ℕ) (ss : List Section). sets b 0 (list_bytes a (pieces ss (records m)))) at_address table-is
+
+    pub plan-is : (b c : List ℕ) → c ≡ sets b 0 (plan_bytes (pages l.handoff t)) → c ≡ sets b 0 (plan_bytes (page_list bare f))
+    unfolding page_list handoff_length
+    plan-is b c z = z ∙ ap₂ (λ (n : ℕ) (ss : List Section). sets b 0 (plan_bytes (pages n ss))) at-handoff table-is
+
+  -- ---- what was written
+
+  module _ (b c : List ℕ) (room : length b ≡ p) (z : c ≡ sets b 0 (plan_bytes (page_list bare f))) where
     abbrev ps : List Page
     ps = page_list host f
 
@@ -209,32 +205,40 @@ module _ (m : List ℕ) (w p q : ℕ) (image : List ℕ) (l : Layout) (e : check
 
     -- the buffer has the plan's bytes, and something behind them
     behind : c ≡ plan_bytes ps ++ rest
-    behind = plan-is ∙ ap (λ (r : List Page). sets b 0 (plan_bytes r)) same ∙ sets-front b (plan_bytes ps) (omega (arith, plan-long host f kept))
+    behind = z ∙ ap (λ (r : List Page). sets b 0 (plan_bytes r)) same ∙ sets-front b (plan_bytes ps) (omega (arith, plan-long host f kept))
 
-    counted : before c l.pages ≡ block_count ps
-    counted = ap₂ before behind at-pages ∙ plan-number ps rest (pages-sized-all host f kept) (pages-volume host f kept)
-
-    pub blocks-are : (n : ℕ) → n ≡ before c l.pages → n ≡ block_count (page_list bare f)
-    blocks-are n k = k ∙ counted ∙ ap block_count (sym same)
-
-    pub blocks-from : (n : ℕ) → n ≡ block_count (page_list bare f) → n ≡ before c l.pages
-    blocks-from n k = k ∙ ap block_count same ∙ sym counted
-
-    pub blocks-few : (n : ℕ) → n ≡ before c l.pages → n ≤ 2 ^ 32
-    blocks-few n k = omega (arith, counted, blocks-most ps, pages-few, at-pages, (last-kept host f kept).pages, pages-counted host f kept)
-
+    -- what is counted and digested of it is the accepted answer's
     pub answer-is : (n : ℕ) (digest : List ℕ) → n ≡ before c l.pages → digest ≡ digest_of image c n
-        → record { refusal = Nothing; pages = l.pages; handoff = l.handoff; blocks = n; measurement = digest } ≡ accepted_answer bare image
+        → record { refusal = None; pages = l.pages; handoff = l.handoff; blocks = n; measurement = digest } ≡ accepted_answer bare image
     unfolding accepted_answer stream_of handoff_list handoff_length page_list
     answer-is n digest k g =
-        let blocks : n ≡ block_count ps = k ∙ counted in
+        let blocks : n ≡ block_count ps =
+        k ∙ ap₂ before behind at-pages ∙ plan-number ps rest (pages-sized-all host f kept) (pages-volume host f kept) in
         let measured : digest ≡ sha384 (stream image (handoff_list host f) ps) =
         g ∙ ap₂ (digest_of image) behind blocks ∙ digest-is ps rest (pages-sized-all host f kept) (pages-volume host f kept) image (handoff_list host f) in
         rw (at-pages, at-handoff, blocks, measured)
 
-    -- and with zeros in the measurement's place
-    pub unmeasured-is : (n : ℕ) → n ≡ before c l.pages → answer_of l n (replicate 48 0) ≡ unmeasured (accepted_answer bare image)
-    unfolding answer_of unmeasured accepted_answer handoff_length page_list
-    unmeasured-is n k =
-        let blocks : n ≡ block_count ps = k ∙ counted in
-        rw (at-pages, at-handoff, blocks)
+    pub blocks-are : (n : ℕ) → n ≡ before c l.pages → n ≡ block_count (page_list bare f)
+    blocks-are n k =
+        k ∙ ap₂ before behind at-pages ∙ plan-number ps rest (pages-sized-all host f kept) (pages-volume host f kept) ∙ ap block_count (sym same)
+
+  -- the answer, with zeros in the measurement's place
+  pub unmeasured-is : (n : ℕ) → n ≡ block_count (page_list bare f) → answer_of l n (replicate 48 0) ≡ unmeasured (accepted_answer bare image)
+  unfolding answer_of unmeasured accepted_answer handoff_length page_list
+  unmeasured-is n k = rw (at-pages, at-handoff, k)
+
+-- ---- the measurement of the plan that stands in the buffer
+
+module _ (h : Host) (image : List ℕ) (kept : Keeps h (fields_of image)) where
+  abbrev planned : List Page
+  planned = page_list h (fields_of image)
+
+  pub measured-is : (rest : List ℕ) → digest_of image (plan_bytes planned ++ rest) (accepted_answer h image).blocks ≡ (accepted_answer h image).measurement
+  unfolding accepted_answer stream_of
+  measured-is rest =
+      digest-is planned rest (pages-sized-all h (fields_of image) kept) (pages-volume h (fields_of image) kept) image (handoff_list h (fields_of image))
+
+  pub blocks-few : (accepted_answer h image).blocks ≤ 2 ^ 32
+  unfolding accepted_answer
+  blocks-few =
+      omega (arith, blocks-most planned, pages-counted h (fields_of image) kept, (last-kept h (fields_of image) kept).pages)

@@ -5,10 +5,9 @@ use Prim.Native.Nat.{ℕ, ◌+◌}
 use native.Mathlib.Omega.{arith}
 use Rattle.sha384.specs.Hash.{sha384}
 use Rattle.verdict.specs.declared.Refusal.{Refusal}
-use Rattle.verdict.specs.declared.Refusal.TheVariants as is
+use Rattle.std.specs.Prelude.{Some}
 use Rattle.measure.specs.declared.Progress.{Progress}
 use Rattle.measure.specs.declared.Turned.{Turned}
-use Rattle.measure.specs.declared.TurnRefusal.TheVariants.{Launch}
 use Rattle.measure.specs.Turn.{answered, halted}
 use Rattle.measure.specs.Turns.{Lent, turn_of, after_turns, lent_all}
 use Rattle.measure.proofs.Quotas.{turned-refused}
@@ -27,19 +26,17 @@ use Rattle.launch.proofs.OneTurn.{first-refusal, first-total, first_done, ready,
 -- ---- a refused launch
 
 -- turns leave a refused state as it is
-refused-stays : (s : Progress) → (s.refusal ≡ is.Nothing → ⊥) → (ls : List Lent) → after_turns s ls ≡ s
+refused-stays : (s : Progress) (r : Refusal) → s.refusal ≡ Some r → (ls : List Lent) → after_turns s ls ≡ s
 unfolding after_turns halted
-refused-stays s n [] = refl
-refused-stays s n (l ∷ ls) =
-    ap (λ (t : Turned). after_turns t.next ls) (turned-refused s l.image l.plan l.quota n) ∙ refused-stays s n ls
+refused-stays s r e [] = refl
+refused-stays s r e (l ∷ ls) =
+    ap (λ (t : Turned). after_turns t.next ls) (turned-refused s l.image l.plan l.quota r e) ∙ refused-stays s r e ls
 
 pub refused-turns : RefusedTurns
-refused-turns h image n ls l =
+refused-turns h image r e ls l =
     let s : Progress = start h image in
-    let some : s.refusal ≡ is.Nothing → ⊥ = λ e. n (sym (first-refusal h image) ∙ e) in
-    ap (λ (t : Progress). turn_of t l) (refused-stays s some ls)
-    ∙ turned-refused s l.image l.plan l.quota some
-    ∙ ap (λ (r : Refusal). halted s (Launch r)) (first-refusal h image)
+    let some : s.refusal ≡ Some r = first-refusal h image ∙ e in
+    ap (λ (t : Progress). turn_of t l) (refused-stays s r some ls) ∙ turned-refused s l.image l.plan l.quota r some
 
 -- ---- one run
 

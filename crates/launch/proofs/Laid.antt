@@ -1,19 +1,16 @@
 -- Rules 9 to 19 and the layout: the code's stages, what each way out answers, and that what stands from the descriptor on serves as the
 -- image's own fields. Assumes nothing.
-use mathlib.Core.Path.{◌≡◌, refl, sym, ap, ap₂, ◌∙◌}
-use mathlib.Core.List.{List, [], ◌∷◌, ◌++◌}
+use mathlib.Core.Path.{◌≡◌, refl, ap, ap₂, ◌∙◌}
+use mathlib.Core.List.{List, [], ◌∷◌}
 use Prim.Native.Nat.{ℕ, ◌+◌, ◌*◌, ◌≤◌, ◌<◌}
 use native.Mathlib.Omega.{arith}
-use lib.Dec.{eqb}
 use lib.ListN.{length}
-use borrow.Author.Tests.{eq-eqb, ne_eqb}
+use Rattle.std.specs.Prelude.{Ok, Err}
 use Rattle.verdict.specs.declared.Refusal.{Refusal}
-use Rattle.verdict.specs.declared.Refusal.TheVariants.{Nothing}
-use Rattle.verdict.specs.Refusal.{number}
 use Rattle.verdict.specs.Turns.{in_turn, up_to}
-use Rattle.verdict.specs.Rules.{Rule, pick, judge}
+use Rattle.verdict.specs.Rules.{Rule, judge}
 use Rattle.verdict.proofs.Turns.{turn-same, length-up_to}
-use Rattle.verdict.proofs.Rules.{nothing-number, judge-then, judge-stops}
+use Rattle.verdict.proofs.Rules.{judge-then, judge-refused}
 use Rattle.tdvf.specs.declared.Section.{Section}
 use Rattle.tdvf.specs.declared.Totals.{Totals}
 use Rattle.tdvf.specs.Image.{Fields, section_count, section_at, sections}
@@ -22,40 +19,28 @@ use Rattle.memory.specs.Map.{record_at, record_count, records}
 use Rattle.handoff.specs.Pieces.{pieces}
 use Rattle.handoff.specs.List.{list_length}
 use Rattle.handoff.proofs.Count.{pieces-few}
-use Rattle.launch.specs.declared.Checked.TheVariants.{Refused, Accepted}
-use Rattle.launch.specs.declared.Layout.{Layout}
 use Rattle.launch.specs.Host.{Host, host_with}
 use Rattle.launch.specs.Rules.{outside_broken, handoff_length, list_broken, section_rules, last_rules, layout_of}
 use Rattle.launch.specs.Stages.{fields_with, last_of, laid_out}
 
--- ---- a verdict and what it makes of the answer
-
-pub answers-refusal : (r : Refusal) (l : Layout) → (r ≡ Nothing → ⊥) → pick (eqb (number r) 0) (Accepted l) (Refused r) ≡ Refused r
-answers-refusal r l n = rw (ne_eqb (number r) 0 (λ e. n ((nothing-number r).0 e)))
-
-pub answers-layout : (r : Refusal) (l : Layout) → r ≡ Nothing → pick (eqb (number r) 0) (Accepted l) (Refused r) ≡ Accepted l
-answers-layout r l e = rw (eq-eqb (number r) 0 ((nothing-number r).1 e))
+-- ---- what the rules make of the answer
 
 module _ (h : Host) (f : Fields) where
   abbrev row : List Rule
   row = in_turn (section_rules h f) (section_count f.descriptor)
 
-  pub laid-sections : (judge row ≡ Nothing → ⊥) → laid_out h f ≡ Refused (judge row)
+  pub laid-sections : (r : Refusal) → judge row ≡ Err r → laid_out h f ≡ Err r
   unfolding laid_out
-  laid-sections n =
-      let e = judge-stops row (last_rules h f) n in
-      answers-refusal (judge (row ++ last_rules h f)) (layout_of h f) (λ z. n (sym e ∙ z)) ∙ ap Refused e
+  laid-sections r e = rw (judge-refused row (last_rules h f) r e)
 
-  module _ (kept : judge row ≡ Nothing) where
-    pub laid-last : (judge (last_rules h f) ≡ Nothing → ⊥) → laid_out h f ≡ Refused (judge (last_rules h f))
+  module _ (kept : judge row ≡ Ok tt) where
+    pub laid-last : (r : Refusal) → judge (last_rules h f) ≡ Err r → laid_out h f ≡ Err r
     unfolding laid_out
-    laid-last n =
-        let e = judge-then row (last_rules h f) kept in
-        answers-refusal (judge (row ++ last_rules h f)) (layout_of h f) (λ z. n (sym e ∙ z)) ∙ ap Refused e
+    laid-last r e = rw (judge-then row (last_rules h f) kept ∙ e)
 
-    pub laid-out : judge (last_rules h f) ≡ Nothing → laid_out h f ≡ Accepted (layout_of h f)
+    pub laid-out : judge (last_rules h f) ≡ Ok tt → laid_out h f ≡ Ok (layout_of h f)
     unfolding laid_out
-    laid-out n = answers-layout (judge (row ++ last_rules h f)) (layout_of h f) (judge-then row (last_rules h f) kept ∙ n)
+    laid-out e = rw (judge-then row (last_rules h f) kept ∙ e)
 
   -- rules 16 to 19 by the totals
   pub last-is : last_of (totals_of (sections f)) (handoff_length h f) ≡ last_rules h f
@@ -120,26 +105,30 @@ module _ (m : List ℕ) (L o : ℕ) (d : List ℕ) (count : ℕ) (is : count ≡
   pub row-counted : judge (in_turn (section_rules host (fields_with L 0 d)) count) ≡ judge (in_turn (section_rules host reading) (section_count d))
   row-counted = sections-any m L o count d ∙ ap (λ (n : ℕ). judge (in_turn (section_rules host reading) n)) is
 
-  pub records-few : (p : ℕ) → p ≡ length (pieces (up_to (section_at d) count) (records m)) → count ≤ 32 → record_count m ≤ 64 → p ≤ 4160
-  unfolding records
-  records-few p e few low =
-      let ss : List Section = up_to (section_at d) count in
-      omega (arith, pieces-few ss (records m) (omega (arith, length-up_to (section_at d) count)), length-up_to (record_at m) (record_count m))
-
-  module _ (t : Totals) (p list : ℕ) (totals : t ≡ totals_of (up_to (section_at d) count))
-      (counted : p ≡ length (pieces (up_to (section_at d) count) (records m))) (long : list ≡ 56 + (48 * p + 8)) where
-    totals-is : t ≡ totals_of (sections reading)
+  module _ (table : List Section) (made : table ≡ up_to (section_at d) count) where
+    table-is : table ≡ sections reading
     unfolding sections
-    totals-is = totals ∙ ap (λ (n : ℕ). totals_of (up_to (section_at d) n)) is
+    table-is = made ∙ ap (up_to (section_at d)) is
 
-    list-is : list ≡ handoff_length host reading
-    unfolding sections handoff_length list_length
-    list-is =
-        long ∙ ap (λ (n : ℕ). 56 + (48 * n + 8)) (counted ∙ ap (λ (n : ℕ). length (pieces (up_to (section_at d) n) (records m))) is)
+    pub records-few : (p : ℕ) → p ≡ length (pieces table (records m)) → count ≤ 32 → record_count m ≤ 64 → p ≤ 4160
+    unfolding records
+    records-few p e few low =
+        let long : length table ≡ count = ap length made ∙ length-up_to (section_at d) count in
+        omega (arith, pieces-few table (records m) (omega (arith, long)), long, length-up_to (record_at m) (record_count m))
 
-    pub last-counted : judge (last_of t list) ≡ judge (last_rules host reading)
-    last-counted = ap₂ (λ (u : Totals) (n : ℕ). judge (last_of u n)) totals-is list-is ∙ ap judge (last-is host reading)
+    module _ (t : Totals) (p list : ℕ) (totals : t ≡ totals_of table)
+        (counted : p ≡ length (pieces table (records m))) (long : list ≡ 56 + (48 * p + 8)) where
+      totals-is : t ≡ totals_of (sections reading)
+      totals-is = totals ∙ ap totals_of table-is
 
-    pub layout-counted : record { offset = o; count = count; pages = t.pages; handoff = list; address = t.address } ≡ layout_of host reading
-    unfolding layout_of totals_of
-    layout-counted = rw (totals-is, list-is, is)
+      list-is : list ≡ handoff_length host reading
+      unfolding handoff_length list_length
+      list-is =
+          long ∙ ap (λ (n : ℕ). 56 + (48 * n + 8)) (counted ∙ ap (λ (ss : List Section). length (pieces ss (records m))) table-is)
+
+      pub last-counted : judge (last_of t list) ≡ judge (last_rules host reading)
+      last-counted = ap₂ (λ (u : Totals) (n : ℕ). judge (last_of u n)) totals-is list-is ∙ ap judge (last-is host reading)
+
+      pub layout-counted : record { offset = o; count = count; pages = t.pages; handoff = list; address = t.address } ≡ layout_of host reading
+      unfolding layout_of totals_of
+      layout-counted = rw (totals-is, list-is, is)

@@ -19,3 +19,4 @@ pub mod Stage
 pub mod Laid
 pub mod Order
 pub mod Accepted
+mod Measured

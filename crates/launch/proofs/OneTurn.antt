@@ -9,8 +9,9 @@ use native.Mathlib.Omega.{arith}
 use lib.ListN.{length, replicate, length-append, length-replicate}
 use Rattle.sha384.specs.Constants.{H⁰}
 use Rattle.sha384.specs.Hash.{left384}
-use Rattle.verdict.specs.declared.Refusal.TheVariants.{Nothing}
-use Rattle.verdict.proofs.Rules.{either, nothing?}
+use Rattle.std.specs.Prelude.{Option, None, Some, sum}
+use Rattle.verdict.specs.declared.Refusal.{Refusal}
+use Rattle.verdict.proofs.Rules.{either, some-none}
 use Rattle.tdvf.specs.Image.{fields_of}
 use Rattle.plan.specs.declared.Page.{Page}
 use Rattle.plan.specs.Plan.{plan_bytes}
@@ -18,7 +19,7 @@ use Rattle.measure.specs.declared.Progress.{Progress}
 use Rattle.measure.specs.declared.Turned.{Turned}
 use Rattle.measure.specs.Stream.{block_count, folded}
 use Rattle.measure.specs.Turn.{next_block, halted, turned}
-use Rattle.measure.specs.Turns.{after_turns, lent_all, sum}
+use Rattle.measure.specs.Turns.{after_turns, lent_all}
 use Rattle.measure.proofs.Launch.{turns-digest}
 use Rattle.measure.proofs.Quotas.{turned-refused}
 use Rattle.measure.proofs.Cuts.{Ready, cut-finished}
@@ -105,15 +106,16 @@ module _ (h : Host) (image : List ℕ) where
   -- ---- one turn of all blocks, of any launch
 
   pub one-turn : (turned first image (plan_after h image) first.total).measurement ≡ (answer h image).measurement
-  unfolding halted after_turns lent_all sum
-  one-turn = step (nothing? (answer h image).refusal)
+  unfolding halted after_turns lent_all
+  one-turn = step (answer h image).refusal refl
     where
-      refuses : ((answer h image).refusal ≡ Nothing → ⊥) → (accepted h image ≡ true) ⊎ (accepted h image ≡ false) → replicate 48 0 ≡ (answer h image).measurement
-      refuses n (inl e) = absurd (n ((accepts-accepted h image).1 e))
-      refuses n (inr e) = sym (refused.refused-counts h image e).3
+      refuses : (r : Refusal) → (answer h image).refusal ≡ Some r → (accepted h image ≡ true) ⊎ (accepted h image ≡ false)
+          → replicate 48 0 ≡ (answer h image).measurement
+      refuses r n (inl e) = absurd (some-none (sym n ∙ (accepts-accepted h image).1 e))
+      refuses r n (inr e) = sym (refused.refused-counts h image e).3
 
-      step : Dec ((answer h image).refusal ≡ Nothing) → (turned first image (plan_after h image) first.total).measurement ≡ (answer h image).measurement
-      step (yes a) = turns-finish a [] first.total (λ z. omega (arith, first-total)) (omega (arith, first-total))
-      step (no n) =
-          ap (λ (t : Turned). t.measurement) (turned-refused first image (plan_after h image) first.total (λ z. n (sym first-refusal ∙ z)))
-          ∙ refuses n (either (accepted h image))
+      step : (r : Option Refusal) → (answer h image).refusal ≡ r → (turned first image (plan_after h image) first.total).measurement ≡ (answer h image).measurement
+      step None a = turns-finish a [] first.total (λ z. omega (arith, first-total)) (omega (arith, first-total))
+      step (Some r) n =
+          ap (λ (t : Turned). t.measurement) (turned-refused first image (plan_after h image) first.total r (first-refusal ∙ n))
+          ∙ refuses r n (either (accepted h image))

@@ -9,29 +9,26 @@ use lib.ListN.{length, take, drop, length-drop}
 use lib.Seq.{take_all}
 use borrow.Author.Tests.{ltb-false, not-false}
 use Rattle.verdict.specs.declared.Refusal.{Refusal}
-use Rattle.verdict.specs.declared.Refusal.TheVariants.{Nothing}
-use Rattle.verdict.specs.Rules.{judge}
+use Rattle.std.specs.Prelude.{Result, Ok, Err}
+use Rattle.verdict.specs.Rules.{Verdict, judge}
 use Rattle.verdict.specs.Turns.{up_to}
 use Rattle.memory.specs.declared.Fault.{Fault}
-use Rattle.memory.specs.declared.Fault.TheVariants as fault
-use Rattle.memory.specs.Map.{width_allowed, record_at, map_tried, first_fault, fault_refusal, map_rules}
+use Rattle.memory.specs.declared.Width.{Width}
+use Rattle.memory.specs.Map.{width_allowed, bits, record_at, map_tried, first_fault, fault_verdict, map_rules}
 use Rattle.memory.proofs.First.{map-judged}
 use Rattle.memory.proofs.Broken.{top-low}
 use Rattle.memory.proofs.Kept.{kept_map}
-use Rattle.verdict.proofs.Rules.{refusal_is}
-use Rattle.tdvf.specs.declared.Located.{Located}
-use Rattle.tdvf.specs.declared.Located.TheVariants.{At, Refused}
+use Rattle.verdict.proofs.Rules.{refused-kept}
 use Rattle.tdvf.specs.Image.{Fields, fields_of, offset_word, section_count, section_at, sections, length_broken, descriptor_rules, located}
 use Rattle.tdvf.proofs.Kept.{kept-front}
 use Rattle.tdvf.proofs.Tried.{or-neither}
-use Rattle.tdvf.proofs.Descriptor.{fields-length, fields-offset, fields-count, fields-section, Found, located-at, Missed, located-missed}
+use Rattle.tdvf.proofs.Descriptor.{fields-length, fields-offset, fields-count, fields-section, Found, at, located-at}
 use Rattle.handoff.specs.Pieces.{EndsFit}
-use Rattle.launch.specs.declared.Checked.TheVariants as checks
 use Rattle.launch.specs.Host.{Host, host_with, buffers_broken, width_broken}
-use Rattle.launch.specs.Rules.{first_rules, verdict, checked, layout_of}
-use Rattle.launch.specs.Stages.{fields_with, located_refusal, laid_out}
+use Rattle.launch.specs.Rules.{first_rules, verdict, checked}
+use Rattle.launch.specs.Stages.{judged, fields_with, laid_out}
 use Rattle.launch.proofs.Keeps.{ends-rows}
-use Rattle.launch.proofs.Laid.{answers-refusal, sections-same, laid_same}
+use Rattle.launch.proofs.Laid.{sections-same, laid_same}
 
 -- ---- rules 1 to 3
 
@@ -47,7 +44,7 @@ pub record FirstKept (h : Host) (f : Fields) : Type 0 where
   pub low : 32 ≤ f.length
   pub high : f.length ≤ 16777216
 
-pub first-kept : (h : Host) (f : Fields) → judge (first_rules h f) ≡ Nothing → FirstKept h f
+pub first-kept : (h : Host) (f : Fields) → judge (first_rules h f) ≡ Ok tt → FirstKept h f
 unfolding first_rules buffers_broken width_broken length_broken
 first-kept h f e =
     let a = kept-front _ _ e in
@@ -65,13 +62,12 @@ first-kept h f e =
 
 -- ---- the map
 
--- a fault that is answered with nothing is none
-pub no-fault : (t : Fault) → fault_refusal t ≡ Nothing → t ≡ fault.Nothing
-unfolding fault_refusal
-no-fault fault.Nothing e = refl
-no-fault (fault.At c i) e = absurd (refusal_is _ _ e)
+-- a map that is answered with no refusal has no fault
+pub no-fault : (t : Result (Unit {0}) Fault) → fault_verdict t ≡ Ok tt → t ≡ Ok tt
+no-fault (Ok u) e = refl
+no-fault (Err t) e = absurd (refused-kept e)
 
-pub ends-fit : (width : ℕ) (map : List ℕ) → width_allowed width ≡ true → first_fault (map_tried width map) ≡ fault.Nothing → EndsFit map
+pub ends-fit : (width : ℕ) (map : List ℕ) → width_allowed width ≡ true → first_fault (map_tried width map) ≡ Ok tt → EndsFit map
 ends-fit width map w e =
     let k = kept_map width map e in
     record {
@@ -82,20 +78,20 @@ ends-fit width map w e =
 -- ---- the answers
 
 module _ (h : Host) (f : Fields) where
-  pub checked_refused : (r : Refusal) → verdict h f ≡ r → (r ≡ Nothing → ⊥) → checked h f ≡ checks.Refused r
+  pub checked_refused : (r : Refusal) → verdict h f ≡ Err r → checked h f ≡ Err r
   unfolding checked
-  checked_refused r e n = answers-refusal (verdict h f) (layout_of h f) (λ z. n (sym e ∙ z)) ∙ ap checks.Refused e
+  checked_refused r e = rw e
 
-  pub checked-laid : judge (first_rules h f) ≡ Nothing → judge (map_rules h.width h.map) ≡ Nothing → judge (descriptor_rules f) ≡ Nothing
+  pub checked-laid : judge (first_rules h f) ≡ Ok tt → judge (map_rules h.width h.map) ≡ Ok tt → judge (descriptor_rules f) ≡ Ok tt
       → checked h f ≡ laid_out h f
   unfolding checked laid_out
   checked-laid a b c = rw (ends-rows h f a b c)
 
 -- ---- the descriptor, handed on as a part of the image
 
-module _ (image : List ℕ) (d n : ℕ) (at : located (fields_of image) ≡ At d n) where
+module _ (image : List ℕ) (d n : ℕ) (here : located (fields_of image) ≡ Ok (at d n)) where
   found : Found (fields_of image) d n
-  found = located-at (fields_of image) d n at
+  found = located-at (fields_of image) d n here
 
   start_is : d ≡ offset_word image
   start_is = found.start ∙ fields-offset image
@@ -141,22 +137,27 @@ module _ (image : List ℕ) (d n : ℕ) (at : located (fields_of image) ≡ At d
       ap₂ (λ (L o : ℕ). laid_out (host_with m 0 0 0) (fields_with L o part)) (sym (fields-length image)) found.start
       ∙ laid_same m w p q (fields_of image) part counts same
 
-  pub part-kept : judge (descriptor_rules (fields_of image)) ≡ Nothing
+  pub part-kept : judge (descriptor_rules (fields_of image)) ≡ Ok tt
   part-kept = found.kept
 
 -- ---- each stage's answer, as the code has it
 
-pub first-is : (image m : List ℕ) (w p q : ℕ) (r : Refusal) → r ≡ judge (first_rules (host_with [] w p q) (fields_with (length image) 0 []))
+pub first-is : (image m : List ℕ) (w p q : ℕ) (r : Verdict) → r ≡ judge (first_rules (host_with [] w p q) (fields_with (length image) 0 []))
     → r ≡ judge (first_rules (host_with m w p q) (fields_of image))
 first-is image m w p q r e =
     e ∙ ap (λ (L : ℕ). judge (first_rules (host_with [] w p q) (fields_with L 0 []))) (sym (fields-length image)) ∙ first_any m w p q (fields_of image)
 
-pub map_is : (w : ℕ) (m : List ℕ) (t : Fault) (r : Refusal) → t ≡ first_fault (map_tried w m) → r ≡ fault_refusal t → r ≡ judge (map_rules w m)
-map_is w m t r e d = d ∙ ap fault_refusal e ∙ map-judged w m
+-- where the first stage answers a width, rules 1 to 3 are kept
+pub first-passed : (image m : List ℕ) (w p q : ℕ) {r : Result Width Refusal} {v : Width}
+    → judged r ≡ judge (first_rules (host_with [] w p q) (fields_with (length image) 0 [])) → r ≡ Ok v
+    → judge (first_rules (host_with m w p q) (fields_of image)) ≡ Ok tt
+first-passed image m w p q e k = sym (first-is image m w p q _ e) ∙ ap judged k
 
-pub missed-is : (f : Fields) (l : Located) (r : Refusal) → l ≡ located f → l ≡ Refused r → Missed f r
-missed-is f l r e d = located-missed f r (sym e ∙ d)
+pub map_is : (w : Width) (n : ℕ) → bits w ≡ n → (m : List ℕ) (t : Result (Unit {0}) Fault) → t ≡ first_fault (map_tried (bits w) m)
+    → fault_verdict t ≡ judge (map_rules n m)
+map_is w n b m t e = ap fault_verdict e ∙ map-judged (bits w) m ∙ ap (λ (k : ℕ). judge (map_rules k m)) b
 
-pub refusal-of : (l : Located) (r : Refusal) → l ≡ Refused r → located_refusal l ≡ r
-unfolding located_refusal
-refusal-of l r e = ap located_refusal e
+-- where the second answers no fault, the map's rules are kept
+pub map-passed : (w : Width) (n : ℕ) → bits w ≡ n → (m : List ℕ) {t : Result (Unit {0}) Fault} → t ≡ first_fault (map_tried (bits w) m) → t ≡ Ok tt
+    → judge (map_rules n m) ≡ Ok tt
+map-passed w n b m e k = sym (map_is w n b m _ e) ∙ ap fault_verdict k

@@ -7,6 +7,7 @@ use mathlib.Core.List.{List, ◌++◌}
 use Prim.Native.Nat.{ℕ, ◌-◌}
 use native.Mathlib.Nat.{sub-zero}
 use lib.ListN.{length, replicate}
+use Rattle.std.specs.Result.{result_err}
 use Rattle.tdvf.specs.Image.{fields_of}
 use Rattle.plan.specs.Plan.{plan_bytes}
 use Rattle.launch.specs.Host.{Host}
@@ -14,7 +15,7 @@ use Rattle.launch.specs.Rules.{verdict}
 use Rattle.launch.specs.Launch.{page_list, handoff_list, refused_answer, accepted_answer, accepted, answer, then_zeros, plan_after, handoff_after}
 
 module _ (h : Host) (image : List ℕ) (refused : accepted h image ≡ false) where
-  pub refused-answer : answer h image ≡ refused_answer (verdict h (fields_of image))
+  pub refused-answer : answer h image ≡ refused_answer (result_err (verdict h (fields_of image)))
   unfolding answer
   refused-answer = rw refused
 

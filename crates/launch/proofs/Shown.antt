@@ -35,7 +35,7 @@ unfolding told
 accepted-told i p b d e = (nothing-number (answer host i).refusal).0 (ap (λ (t : Told). t.number) e)
 
 pub worked-accepted : Accepts host image
-unfolding starred Holds
+unfolding starred
 worked-accepted = accepted-told image 4 52 4096 claim.0
 
 -- ---- different streams
@@ -55,7 +55,7 @@ stream-long i p b d e =
     sym ((demand-2 host i).1 (accepted-told i p b d e)).blocks ∙ ap (λ (t : Told). 128 * t.blocks) e
 
 pub different-streams : DifferentStreams
-unfolding starred Holds
+unfolding starred
 different-streams =
     record {
       host = host;

@@ -8,7 +8,8 @@ use native.Mathlib.Omega.{arith}
 use native.Mathlib.Decide.{ℕ_discrete}
 use lib.ListN.{length, get_or}
 use borrow.Author.Tests.{eqb-true}
-use Rattle.verdict.specs.declared.Refusal.TheVariants.{Nothing}
+use Rattle.std.specs.Prelude.{None}
+use Rattle.std.specs.Result.{result_err}
 use Rattle.verdict.specs.Rules.{pick}
 use Rattle.verdict.proofs.Each.{each-up_to}
 use Rattle.tdvf.specs.Image.{Fields, fields_of, section_count, section_at, sections}
@@ -115,21 +116,21 @@ through field false x y = refl
 
 -- the answer but for the measurement, by what is read of the image
 module _ (h : Host) (image : List ℕ) where
-  refusal_is : (answer h image).refusal ≡ pick (accepted h image) Nothing (verdict h (fields_of image))
+  refusal_is : (answer h image).refusal ≡ pick (accepted h image) None (result_err (verdict h (fields_of image)))
   unfolding answer accepted_answer refused_answer
-  refusal_is = through (λ a. a.refusal) (accepted h image) (accepted_answer h image) (refused_answer (verdict h (fields_of image)))
+  refusal_is = through (λ a. a.refusal) (accepted h image) (accepted_answer h image) (refused_answer (result_err (verdict h (fields_of image))))
 
   pages-are : (answer h image).pages ≡ pick (accepted h image) (length (page_list h (fields_of image))) 0
   unfolding answer accepted_answer refused_answer
-  pages-are = through (λ a. a.pages) (accepted h image) (accepted_answer h image) (refused_answer (verdict h (fields_of image)))
+  pages-are = through (λ a. a.pages) (accepted h image) (accepted_answer h image) (refused_answer (result_err (verdict h (fields_of image))))
 
   list-is : (answer h image).handoff ≡ pick (accepted h image) (handoff_length h (fields_of image)) 0
   unfolding answer accepted_answer refused_answer
-  list-is = through (λ a. a.handoff) (accepted h image) (accepted_answer h image) (refused_answer (verdict h (fields_of image)))
+  list-is = through (λ a. a.handoff) (accepted h image) (accepted_answer h image) (refused_answer (result_err (verdict h (fields_of image))))
 
   blocks-are : (answer h image).blocks ≡ pick (accepted h image) (block_count (page_list h (fields_of image))) 0
   unfolding answer accepted_answer refused_answer
-  blocks-are = through (λ a. a.blocks) (accepted h image) (accepted_answer h image) (refused_answer (verdict h (fields_of image)))
+  blocks-are = through (λ a. a.blocks) (accepted h image) (accepted_answer h image) (refused_answer (result_err (verdict h (fields_of image))))
 
 module _ (h : Host) (image other : List ℕ) (a : Agrees image other) where
   alike : fields_of other ≡ fields_of image

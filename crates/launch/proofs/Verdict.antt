@@ -5,13 +5,11 @@ use mathlib.Core.List.{List}
 use mathlib.Core.Logic.{◌↔◌}
 use Prim.Native.Nat.{ℕ}
 use lib.Dec.{lit≤}
-use borrow.Author.Tests.{eqb-true, eq-eqb}
-use Rattle.verdict.specs.declared.Refusal.TheVariants.{Nothing}
-use Rattle.verdict.specs.Refusal.{number}
+use Rattle.std.specs.Prelude.{Ok}
 use Rattle.verdict.specs.Turns.{in_turn}
 use Rattle.verdict.specs.Rules.{judge, Kept, Numbered}
 use Rattle.verdict.proofs.Each.{each_none}
-use Rattle.verdict.proofs.Rules.{nothing-number}
+use Rattle.verdict.proofs.Rules.{ok-kept}
 use Rattle.verdict.proofs.Verdict.{accepted-exactly, refused-first, named, First, Named, numbered-append, numbered-turns, numbered-cons}
 use Rattle.memory.proofs.Numbered.{map-numbered}
 use Rattle.memory.specs.Map.{map_rules}
@@ -25,13 +23,12 @@ use Rattle.launch.specs.Launch.{accepted}
 pub accepted-kept : (h : Host) (image : List ℕ) → (accepted h image ≡ true) ↔ Kept (rules h (fields_of image))
 unfolding accepted verdict
 accepted-kept h image =
-    let r = judge (rules h (fields_of image)) in (
-      λ e. (accepted-exactly (rules h (fields_of image))).0 ((nothing-number r).0 (eqb-true (number r) 0 e)),
-      λ k. eq-eqb (number r) 0 ((nothing-number r).1 ((accepted-exactly (rules h (fields_of image))).1 k)),
-    )
+    let test = ok-kept (judge (rules h (fields_of image))) in
+    let exactly = accepted-exactly (rules h (fields_of image)) in
+    (λ e. exactly.0 (test.0 e), λ k. test.1 (exactly.1 k))
 
 -- a refusal names a broken rule, and every rule before it is kept
-pub verdict-first : (h : Host) (f : Fields) → (verdict h f ≡ Nothing → ⊥) → First (rules h f)
+pub verdict-first : (h : Host) (f : Fields) → (verdict h f ≡ Ok tt → ⊥) → First (rules h f)
 unfolding verdict
 verdict-first h f refused = refused-first (rules h f) refused
 
@@ -80,5 +77,5 @@ rules-numbered h f =
     )
 
 -- so a refusal has the number and the place of the first broken rule
-pub verdict-named : (h : Host) (f : Fields) (refused : verdict h f ≡ Nothing → ⊥) → Named (rules h f) (verdict-first h f refused)
+pub verdict-named : (h : Host) (f : Fields) (refused : verdict h f ≡ Ok tt → ⊥) → Named (rules h f) (verdict-first h f refused)
 verdict-named h f refused = named (rules h f) (rules-numbered h f) (verdict-first h f refused)

@@ -3,27 +3,22 @@ use mathlib.Core.Path.{◌≡◌, sym, ap, ap₂, ◌∙◌}
 use mathlib.Core.Bool.{true, false}
 use mathlib.Core.List.{List}
 use Prim.Native.Nat.{ℕ}
-use native.Mathlib.Omega.{arith}
+use Rattle.std.specs.Prelude.{Result, Ok, Err}
+use Rattle.std.specs.Result.{result_err}
 use lib.ListN.{length, replicate, length-replicate}
 use lib.Seq.{sets}
-use borrow.Author.Tests.{eq-eqb, ne_eqb}
 use Rattle.wire.proofs.Sets.{sets-replicate}
 use Rattle.verdict.specs.declared.Refusal.{Refusal}
-use Rattle.verdict.specs.declared.Refusal.TheVariants.{Nothing}
-use Rattle.verdict.specs.Refusal.{number}
-use Rattle.verdict.proofs.Rules.{nothing?, nothing-number}
+use Rattle.verdict.specs.Rules.{Verdict}
+use Rattle.verdict.proofs.Rules.{and-missed}
 use Rattle.tdvf.specs.Image.{fields_of}
 use Rattle.plan.specs.Plan.{plan_bytes}
 use Rattle.launch.specs.declared.Answer.{Answer}
-use Rattle.launch.specs.declared.Checked.{Checked}
-use Rattle.launch.specs.declared.Checked.TheVariants.{Refused, Accepted}
 use Rattle.launch.specs.declared.Layout.{Layout}
 use Rattle.launch.specs.Host.{Host, host_with}
 use Rattle.launch.specs.Rules.{handoff_length, verdict, layout_of, checked}
-use Rattle.launch.specs.Stages.{checked_refusal}
 use Rattle.launch.specs.Launch.{page_list, handoff_list, stream_of, accepted_answer, refused_answer, accepted, answer, plan_after, handoff_after}
 use Rattle.launch.proofs.Keeps.{keeps}
-use Rattle.launch.proofs.Laid.{answers-refusal, answers-layout}
 use Rattle.launch.proofs.Filled.{lays, plan-long, list-long}
 use Rattle.launch.proofs.Refused as refused
 
@@ -31,30 +26,21 @@ use Rattle.launch.proofs.Refused as refused
 
 pub record Refuses (h : Host) (image : List ℕ) (r : Refusal) : Type 0 where
   pub not : accepted h image ≡ false
-  pub is : verdict h (fields_of image) ≡ r
+  pub is : verdict h (fields_of image) ≡ Err r
 
-pub refuses : (h : Host) (image : List ℕ) (r : Refusal) → checked h (fields_of image) ≡ Refused r → Refuses h image r
+pub refuses : (h : Host) (image : List ℕ) (r : Refusal) → checked h (fields_of image) ≡ Err r → Refuses h image r
 unfolding checked accepted
-refuses h image r e = step (nothing? (verdict h (fields_of image)))
-  where
-    step : Dec (verdict h (fields_of image) ≡ Nothing) → Refuses h image r
-    step (yes k) =
-        let v = verdict h (fields_of image) in
-        let other = sym (answers-layout v (layout_of h (fields_of image)) k) ∙ e in
-        absurd (let z : ◌≡◌ {A = ℕ} 0 1 = cc in omega arith)
-    step (no n) =
-        let v = verdict h (fields_of image) in
-        let same : Refused v ≡ Refused r = sym (answers-refusal v (layout_of h (fields_of image)) n) ∙ e in
-        record { not = ne_eqb (number v) 0 (λ z. n ((nothing-number v).0 z)); is = cc }
+refuses h image r e =
+    let is = and-missed (verdict h (fields_of image)) (layout_of h (fields_of image)) r e in record { not = rw is; is = is }
 
-pub accepts : (h : Host) (image : List ℕ) → verdict h (fields_of image) ≡ Nothing → accepted h image ≡ true
+pub accepts : (h : Host) (image : List ℕ) → verdict h (fields_of image) ≡ Ok tt → accepted h image ≡ true
 unfolding accepted
-accepts h image e = eq-eqb (number (verdict h (fields_of image))) 0 ((nothing-number (verdict h (fields_of image))).1 e)
+accepts h image e = rw e
 
 -- ---- the ways out
 
 module _ (m : List ℕ) (w : ℕ) (image plan handoff p₁ h₁ : List ℕ) (cleared : p₁ ≡ replicate (length plan) 0) (cleared₂ : h₁ ≡ replicate (length handoff) 0)
-    (c : Checked) (e : c ≡ checked (host_with m w (length p₁) (length h₁)) (fields_of image)) where
+    (c : Result Layout Refusal) (e : c ≡ checked (host_with m w (length p₁) (length h₁)) (fields_of image)) where
   abbrev host : Host
   host = host_with m w (length plan) (length handoff)
 
@@ -64,17 +50,17 @@ module _ (m : List ℕ) (w : ℕ) (image plan handoff p₁ h₁ : List ℕ) (cle
       (ap length cleared ∙ length-replicate (length plan) 0) (ap length cleared₂ ∙ length-replicate (length handoff) 0)
 
   -- a refusal: the buffers stay as they were cleared
-  pub refused-whole : (r : Refusal) → c ≡ Refused r
-      → (refused_answer (checked_refusal c) ≡ answer host image) × ((p₁ ≡ plan_after host image) × (h₁ ≡ handoff_after host image))
-  unfolding checked_refusal
+  pub refused-whole : (r : Refusal) → c ≡ Err r
+      → (refused_answer (result_err c) ≡ answer host image) × ((p₁ ≡ plan_after host image) × (h₁ ≡ handoff_after host image))
   refused-whole r k =
       let t = refuses host image r (sym same ∙ k) in (
-        ap (λ (d : Checked). refused_answer (checked_refusal d)) k ∙ ap refused_answer (sym t.is) ∙ sym (refused.refused-answer host image t.not),
+        ap (λ (d : Result Layout Refusal). refused_answer (result_err d)) k
+            ∙ ap (λ (v : Verdict). refused_answer (result_err v)) (sym t.is) ∙ sym (refused.refused-answer host image t.not),
         (cleared ∙ sym (refused.refused-plan host image t.not), cleared₂ ∙ sym (refused.refused-handoff host image t.not)),
       )
 
   -- acceptance: the writers' bytes, and the zeros behind them
-  pub accepted-whole : (l : Layout) → c ≡ Accepted l → (r : Answer) (p₂ h₂ : List ℕ)
+  pub accepted-whole : (l : Layout) → c ≡ Ok l → (r : Answer) (p₂ h₂ : List ℕ)
       → r ≡ accepted_answer (host_with m 0 0 0) image
       → p₂ ≡ sets p₁ 0 (plan_bytes (page_list (host_with m 0 0 0) (fields_of image)))
       → h₂ ≡ sets h₁ 0 (handoff_list (host_with m 0 0 0) (fields_of image))

@@ -1,6 +1,6 @@
 -- Page 01, "A launch in full": the worked launch whole, computed. Assumes nothing.
 use mathlib.Core.Path.{◌≡◌, refl}
-use mathlib.Core.List.{List, [], ◌∷◌}
+use mathlib.Core.List.{List, [], ◌∷◌, map}
 use Rattle.wire.specs.Number.{le, number_at}
 use Rattle.verdict.specs.Turns.{in_turn}
 use Rattle.memory.specs.Map.{record_at, records}
@@ -8,7 +8,7 @@ use Rattle.tdvf.specs.Image.{offset_word, section_count, descriptor_at, fields_o
 use Rattle.tdvf.specs.Section.{handoff_section}
 use Rattle.plan.specs.declared.Page.{Page}
 use Rattle.plan.specs.Plan.{source_of, data_length, data_offset, page_of, pages_of, pages, page_bytes, plan_bytes}
-use Rattle.handoff.specs.Pieces.{lower_of, next_of, piece_at, cut, pieces_of, pieces}
+use Rattle.handoff.specs.Pieces.{resource_type, resource_attributes, piece_numbers, lower_of, next_of, piece_at, cut, pieces_of, pieces}
 use Rattle.handoff.specs.List.{first_block, piece_block, last_block, piece_blocks, list_length, list_bytes}
 use Rattle.measure.specs.Stream.{measured_pages, block_count}
 use Rattle.launch.specs.Rules.{handoff_length}
@@ -37,12 +37,12 @@ unfolding plan le page_bytes plan_bytes
 plan-bytes = refl
 
 -- "Pieces: 0 to 0x9000 type 7; 0x9000 to 0xA000 type 0; 0xA000 to 0xC000 type 0; 0xC000 to 0x10000 type 7"
-pub pieces_are : pieces (sections (fields_of image)) (records host.map) ≡
-    record { resource = 7; attributes = 7; start = 0; length = 0x9000 } ∷
-    record { resource = 0; attributes = 7; start = 0x9000; length = 0x1000 } ∷
-    record { resource = 0; attributes = 7; start = 0xA000; length = 0x2000 } ∷
-    record { resource = 7; attributes = 7; start = 0xC000; length = 0x4000 } ∷ []
-unfolding le number_at in_turn record_at records offset_word section_count descriptor_at fields_of signature section_at sections lower_of next_of piece_at cut pieces_of pieces section_bytes descriptor_bytes image_of record_bytes boot hob temporary image ram firmware host_of host
+pub pieces_are : map piece_numbers (pieces (sections (fields_of image)) (records host.map)) ≡
+    (7 ∷ 7 ∷ 0 ∷ 0x9000 ∷ []) ∷
+    (0 ∷ 7 ∷ 0x9000 ∷ 0x1000 ∷ []) ∷
+    (0 ∷ 7 ∷ 0xA000 ∷ 0x2000 ∷ []) ∷
+    (7 ∷ 7 ∷ 0xC000 ∷ 0x4000 ∷ []) ∷ []
+unfolding resource_type resource_attributes le number_at in_turn record_at records offset_word section_count descriptor_at fields_of signature section_at sections lower_of next_of piece_at cut pieces_of pieces section_bytes descriptor_bytes image_of record_bytes boot hob temporary image ram firmware host_of host
 pieces_are = refl
 
 -- "pages 4 hob 256 blocks 52"
@@ -72,7 +72,7 @@ pub handoff-is : handoff_list host (fields_of image) ≡
     0 ∷ 0 ∷ 0 ∷ 0 ∷ 0 ∷ 0 ∷ 0 ∷ 0 ∷ 0 ∷ 0 ∷ 0 ∷ 0 ∷ 0 ∷ 0 ∷ 0 ∷ 0 ∷
     0x07 ∷ 0 ∷ 0 ∷ 0 ∷ 0x07 ∷ 0 ∷ 0 ∷ 0 ∷ 0 ∷ 0xC0 ∷ 0 ∷ 0 ∷ 0 ∷ 0 ∷ 0 ∷ 0 ∷
     0 ∷ 0x40 ∷ 0 ∷ 0 ∷ 0 ∷ 0 ∷ 0 ∷ 0 ∷ 0xFF ∷ 0xFF ∷ 0x08 ∷ 0 ∷ 0 ∷ 0 ∷ 0 ∷ 0 ∷ []
-unfolding le number_at in_turn record_at records offset_word section_count descriptor_at fields_of signature section_at sections handoff_section lower_of next_of piece_at cut pieces_of pieces first_block piece_block last_block piece_blocks list_length list_bytes handoff_list section_bytes descriptor_bytes image_of record_bytes boot hob temporary image ram firmware host_of host
+unfolding resource_type resource_attributes le number_at in_turn record_at records offset_word section_count descriptor_at fields_of signature section_at sections handoff_section lower_of next_of piece_at cut pieces_of pieces first_block piece_block last_block piece_blocks list_length list_bytes handoff_list section_bytes descriptor_bytes image_of record_bytes boot hob temporary image ram firmware host_of host
 handoff-is = refl
 
 pub past-is-9100 : number_at 8 (handoff_list host (fields_of image)) 48 ≡ 0x9100

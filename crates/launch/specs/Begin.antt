@@ -1,7 +1,6 @@
 -- How a measurement in turns begins: "with the launch's checks and plan, or the launch's refusal". Assumes nothing.
-use Rattle.std.specs.Prelude.{List, ℕ, ◌+◌, length, replicate}
+use Rattle.std.specs.Prelude.{List, ℕ, ◌+◌, length, replicate, None}
 use Rattle.sha384.specs.Constants.{H⁰}
-use Rattle.verdict.specs.declared.Refusal.TheVariants.{Nothing}
 use Rattle.measure.specs.declared.Progress.{Progress}
 use Rattle.launch.specs.declared.Answer.{Answer}
 use Rattle.launch.specs.declared.Begun.{Begun}
@@ -11,7 +10,7 @@ use Rattle.launch.specs.Launch.{answer}
 
 -- the answer of a launch that breaks no rule, by what the checks found and what was counted and measured
 unfoldable pub answer_of : Layout → ℕ → List ℕ → Answer
-answer_of l blocks measurement = record { refusal = Nothing; pages = l.pages; handoff = l.handoff; blocks = blocks; measurement = measurement }
+answer_of l blocks measurement = record { refusal = None; pages = l.pages; handoff = l.handoff; blocks = blocks; measurement = measurement }
 
 -- an answer with 48 zero bytes in the measurement's place
 unfoldable pub unmeasured : Answer → Answer

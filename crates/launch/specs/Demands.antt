@@ -2,10 +2,9 @@
 -- of `launch` says that its answer is `answer`, and that the buffers hold `plan_after` and `handoff_after` when it returns: for every input, since it
 -- requires nothing. So what is said here of these three is said of the function.
 -- Assumes nothing.
-use Rattle.std.specs.Prelude.{◌≡◌, ◌↔◌, ◌⊎◌, true, ℕ, ◌+◌, ◌-◌, ◌*◌, ◌≤◌, ◌<◌, min, length, get_or, replicate}
+use Rattle.std.specs.Prelude.{◌≡◌, ◌↔◌, ◌⊎◌, true, ℕ, ◌+◌, ◌-◌, ◌*◌, ◌≤◌, ◌<◌, min, length, get_or, replicate, Option, None}
 use mathlib.Core.List.{List, ◌∷◌, ◌++◌, Memᴰ}
 use Rattle.verdict.specs.declared.Refusal.{Refusal}
-use Rattle.verdict.specs.declared.Refusal.TheVariants.{Nothing}
 use Rattle.verdict.specs.Refusal as refusal
 use Rattle.verdict.specs.Rules.{Rule, Kept}
 use Rattle.memory.specs.Map.{record_at, record_count, end}
@@ -23,12 +22,12 @@ use Rattle.launch.specs.Launch.{page_list, handoff_list, stream_of, accepted_ans
 
 -- a launch is accepted where its answer has no refusal
 abbrev pub Accepts : Host → List ℕ → Type 0
-Accepts h image = (answer h image).refusal ≡ Nothing
+Accepts h image = (answer h image).refusal ≡ None
 
 -- ---- demand 1
 
 -- "at the first broken rule": the row has a broken rule before which all are kept, and the refusal has its number and its place
-pub record FirstBroken (row : List Rule) (r : Refusal) : Type 0 where
+pub record FirstBroken (row : List Rule) (r : Option Refusal) : Type 0 where
   pub before : List Rule
   pub first : Rule
   pub after : List Rule

@@ -1,12 +1,13 @@
 -- What is promised of a launch that is measured in turns. Each statement is the whole type of one declaration of proofs/InTurns, which
 -- proves it. What is promised of any turns, also of those that are lent something else, is `Held` of measure/specs/Turns.
 -- Assumes nothing.
-use Rattle.std.specs.Prelude.{◌≡◌, List, ℕ, ◌+◌, ◌≤◌, ◌<◌, min, replicate}
+use Rattle.std.specs.Prelude.{◌≡◌, List, ℕ, ◌+◌, ◌≤◌, ◌<◌, min, replicate, None, Some, sum}
+use Rattle.verdict.specs.declared.Refusal.{Refusal}
 use Rattle.measure.specs.declared.Progress.{Progress}
 use Rattle.measure.specs.declared.Turned.{Turned}
-use Rattle.measure.specs.declared.TurnRefusal.TheVariants.{Nothing, Launch}
+use Rattle.measure.specs.declared.TurnRefusal.TheVariants.{Launch}
 use Rattle.measure.specs.Turn.{halted, turned}
-use Rattle.measure.specs.Turns.{Lent, turn_of, after_turns, reported, lent_all, sum}
+use Rattle.measure.specs.Turns.{Lent, turn_of, after_turns, reported, lent_all}
 use Rattle.launch.specs.Host.{Host}
 use Rattle.launch.specs.Launch.{stream_of, answer, plan_after}
 use Rattle.launch.specs.Begin.{begun}
@@ -27,8 +28,8 @@ last_turn h image quotas q = turned (state_after h image quotas) image (plan_aft
 
 -- "the launch's refusal, which every turn on that state then answers before anything else, with 0 blocks": whatever is lent, and with any quota
 abbrev pub RefusedTurns : Type 0
-RefusedTurns = (h : Host) (image : List ℕ) → (Accepts h image → ⊥) → (ls : List Lent) (l : Lent)
-    → turn_of (after_turns (start h image) ls) l ≡ halted (start h image) (Launch (answer h image).refusal)
+RefusedTurns = (h : Host) (image : List ℕ) (r : Refusal) → (answer h image).refusal ≡ Some r → (ls : List Lent) (l : Lent)
+    → turn_of (after_turns (start h image) ls) l ≡ halted (start h image) (Launch r)
 
 -- ---- "If all turns are lent the image and plan of the start"
 
@@ -39,7 +40,7 @@ pub record OneRun (h : Host) (image : List ℕ) (quotas : List ℕ) (q : ℕ) : 
   pub done : (state_after h image quotas).done ≡ min (sum quotas) ((answer h image).blocks + 1)
   pub told : reported (start h image) (lent_all image (plan_after h image) quotas) ≡ (state_after h image quotas).done
   -- one more turn, with a quota that is not 0, is not refused
-  pub none : (last_turn h image quotas q).refusal ≡ Nothing
+  pub none : (last_turn h image quotas q).refusal ≡ None
   -- "the last answer equals the measurement of one run": from the turn on that does the padding block
   pub finished : (answer h image).blocks + 1 ≤ sum quotas + q → (last_turn h image quotas q).measurement ≡ (answer h image).measurement
   -- before it, "48 zero bytes"

@@ -1,9 +1,8 @@
 -- Page 01, "What the loader takes and gives": the answer of a launch, and what stands in both buffers after it.
 -- Assumes nothing.
-use Rattle.std.specs.Prelude.{Bool, List, [], ◌++◌, ℕ, ◌-◌, eqb, length, replicate}
+use Rattle.std.specs.Prelude.{Bool, List, [], ◌++◌, ℕ, ◌-◌, length, replicate, Option, None, is_ok}
+use Rattle.std.specs.Result.{result_err}
 use Rattle.verdict.specs.declared.Refusal.{Refusal}
-use Rattle.verdict.specs.declared.Refusal.TheVariants.{Nothing}
-use Rattle.verdict.specs.Refusal.{number}
 use Rattle.verdict.specs.Rules.{pick}
 use Rattle.memory.specs.Map.{records}
 use Rattle.tdvf.specs.Image.{Fields, fields_of, sections}
@@ -35,7 +34,7 @@ stream_of h image = stream image (handoff_list h (fields_of image)) (page_list h
 -- ---- the answer
 
 -- "Every refusal of a launch returns pages, HOB length and blocks 0, a measurement of 48 zero bytes"
-unfoldable pub refused_answer : Refusal → Answer
+unfoldable pub refused_answer : Option Refusal → Answer
 refused_answer r = record { refusal = r; pages = 0; handoff = 0; blocks = 0; measurement = replicate 48 0 }
 
 -- "or the number of planned pages, the length of the HOB list, the number of measured blocks and the 48-byte measurement"
@@ -43,7 +42,7 @@ unfoldable pub accepted_answer : Host → List ℕ → Answer
 accepted_answer h image =
     let f = fields_of image in
     record {
-      refusal = Nothing;
+      refusal = None;
       pages = length (page_list h f);
       handoff = handoff_length h f;
       blocks = block_count (page_list h f);
@@ -51,10 +50,10 @@ accepted_answer h image =
     }
 
 unfoldable pub accepted : Host → List ℕ → Bool
-accepted h image = eqb (number (verdict h (fields_of image))) 0
+accepted h image = is_ok (verdict h (fields_of image))
 
 unfoldable pub answer : Host → List ℕ → Answer
-answer h image = pick (accepted h image) (accepted_answer h image) (refused_answer (verdict h (fields_of image)))
+answer h image = pick (accepted h image) (accepted_answer h image) (refused_answer (result_err (verdict h (fields_of image))))
 
 -- ---- the buffers after the launch
 

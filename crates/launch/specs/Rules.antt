@@ -1,12 +1,12 @@
 -- Page 01, "Order of the rules": the table, as a row of rules in the page's order. Each rule's type shows what it depends on: `Host`
 -- alone, `Fields` (what is read of the image) alone, or both.
 -- Assumes nothing.
-use Rattle.std.specs.Prelude.{Bool, not, List, [], ◌∷◌, ◌++◌, ℕ, ltb, eqb}
+use Rattle.std.specs.Prelude.{Bool, not, List, [], ◌∷◌, ◌++◌, ℕ, ltb, Result, Ok}
+use Rattle.std.specs.Result.{result_and}
 use Rattle.verdict.specs.declared.Place.TheVariants.{Nowhere, Section}
 use Rattle.verdict.specs.declared.Refusal.{Refusal}
-use Rattle.verdict.specs.Refusal.{number}
 use Rattle.verdict.specs.Turns.{in_turn, up_to}
-use Rattle.verdict.specs.Rules.{Rule, rule, pick, judge}
+use Rattle.verdict.specs.Rules.{Rule, Verdict, rule, judge}
 use Rattle.memory.specs.Map.{records, map_rules, inside}
 use Rattle.tdvf.specs.Image.{Fields, section_count, section_at, sections, length_broken, descriptor_rules}
 use Rattle.tdvf.specs.Section.{kind_allowed, image_rules, shared_broken, boot_broken, handoff_broken, pages_in_all, pages_broken, handoff_section}
@@ -14,8 +14,6 @@ use Rattle.tdvf.specs.declared.Section as a
 use Rattle.handoff.specs.Pieces.{pieces}
 use Rattle.handoff.specs.List.{list_length}
 use Rattle.launch.specs.declared.Layout.{Layout}
-use Rattle.launch.specs.declared.Checked.{Checked}
-use Rattle.launch.specs.declared.Checked.TheVariants.{Refused, Accepted}
 use Rattle.launch.specs.Host.{Host, buffers_broken, width_broken}
 
 -- ---- the two rules that depend on both
@@ -65,7 +63,7 @@ rules h f =
     ++ last_rules h f)))
 
 -- "The launch stops at the first broken rule and answers it"
-unfoldable pub verdict : Host → Fields → Refusal
+unfoldable pub verdict : Host → Fields → Verdict
 verdict h f = judge (rules h f)
 
 -- what the checks answer: the verdict, or what the writers need of an accepted launch
@@ -79,5 +77,5 @@ layout_of h f =
       address = (handoff_section (sections f)).address;
     }
 
-unfoldable pub checked : Host → Fields → Checked
-checked h f = pick (eqb (number (verdict h f)) 0) (Accepted (layout_of h f)) (Refused (verdict h f))
+unfoldable pub checked : Host → Fields → Result Layout Refusal
+checked h f = result_and (verdict h f) (Ok (layout_of h f))

@@ -7,33 +7,29 @@
 
 ghost use Rattle.std.specs.Prelude.{◌≤◌};
 
-use files::{print_line, print_refusal, read_file};
+use files::{print_line, print_refusal, with_inputs};
 use launch::Answer;
 use plan::Page;
 use std::io;
-use std::io::Write;
-use verdict::Refusal;
 
 fn print_summary<R: Print>(rt: &R, pages: u64, handoff: u64, blocks: u64) -> io::Result<()> {
     let mut line = [0u8; 96];
     let count = text::put_summary(&mut line, pages, handoff, blocks);
-    print_line(rt, &line, count)
+    print_line(rt, &line[..count])
 }
 
 fn print_page<R: Print>(rt: &R, page: Page) -> io::Result<()> {
     let mut line = [0u8; 128];
     let count = text::put_page(&mut line, page);
-    print_line(rt, &line, count)
+    print_line(rt, &line[..count])
 }
 
 // The lines of the plan's first records. No launch plans more than 4,096 pages.
 fn print_pages<R: Print>(rt: &R, plan: &[u8], pages: u64) -> io::Result<()>
     requires { pages ≤ 4096 }
 {
-    let mut index = 0;
-    while index < pages {
+    for index in 0..pages {
         print_page(rt, measure::page_at(plan, index as usize))?;
-        index += 1;
     }
     Ok(())
 }
@@ -41,26 +37,20 @@ fn print_pages<R: Print>(rt: &R, plan: &[u8], pages: u64) -> io::Result<()>
 fn print_answer<R: Print>(rt: &R, answer: Answer, plan: &[u8]) -> io::Result<()>
     requires { answer.pages ≤ 4096 }
 {
-    let refusal = answer.refusal;
-    let Refusal::Nothing = refusal else {
-        return print_refusal(rt, refusal);
-    };
+    if answer.refusal.is_some() {
+        return print_refusal(rt, answer.refusal);
+    }
     print_summary(rt, answer.pages, answer.handoff, answer.blocks)?;
     print_pages(rt, plan, answer.pages)
 }
 
-// The image's buffer has a byte more than an image may have, so that one too long is seen. A map of 64 records has 1,536 bytes,
-// and one that the map's buffer cuts short has too many records either way.
-fn main(rt: HostRuntime) -> io::Result<()> {
-    let mut image = [0u8; 65537];
-    let length = read_file(&rt, b"image.bin", &mut image);
-    if 65536 < length {
-        return io::writer(&rt).write_all(b"too long\n");
-    }
-    let mut map = [0u8; 4096];
-    let size = read_file(&rt, b"map.bin", &mut map);
+fn print_launch<R: Print>(rt: &R, image: &[u8], map: &[u8]) -> io::Result<()> {
     let mut plan = [0u8; 65536];
     let mut handoff = [0u8; 8192];
-    let answer = launch::launch(&image[..length], &map[..size], 48, &mut plan, &mut handoff);
-    print_answer(&rt, answer, &plan)
+    let answer = launch::launch(image, map, 48, &mut plan, &mut handoff);
+    print_answer(rt, answer, &plan)
+}
+
+fn main(rt: HostRuntime) -> io::Result<()> {
+    with_inputs(&rt, |image, map| print_launch(&rt, image, map))
 }

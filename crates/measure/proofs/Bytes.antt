@@ -3,12 +3,12 @@
 use Rattle.std.proofs.Common.{◌≡◌, ℕ, zero, suc, ◌+◌, ◌-◌, ◌*◌, ◌%◌, ◌^◌, ◌<◌, ◌≤◌, min, List, [], ◌∷◌, ◌++◌, length, get_or, take, drop, replicate, sym, refl, ap, ◌∙◌, append_assoc, arith, length-append, length-drop, drop_of_length-le, length-take-le, get_or-drop, take_all, get_or-take, ext_get_or}
 use native.Mathlib.Decide.{dec_le}
 use lib.ListN.{length-replicate}
+use Rattle.std.proofs.lemmas.List.{take-replicate}
 use lib.Seq.{sets, take-append-add}
 use Rattle.wire.specs.Number.{le, number_at}
 use Rattle.wire.proofs.Sets.{sets_then, sets-replicate, sets-gap}
 use Rattle.wire.proofs.Digits.{length-le, le-mod}
-use Rattle.wire.proofs.Number.{number_at-one, number_at-same, get_or-zeros}
-use Rattle.plan.specs.declared.Page.{Page}
+use Rattle.wire.proofs.Number.{number_at-same, get_or-zeros}
 use Rattle.plan.specs.Plan.{page_at}
 use Rattle.plan.specs.View.{content}
 use Rattle.measure.specs.Stream.{head_block}
@@ -28,7 +28,7 @@ head-is tag b h address l e f =
     let size : 16 ≡ length tag + k = omega arith in
     ap (λ (n : ℕ). take n (tag ++ replicate 16 0)) size
     ∙ take-append-add tag (replicate 16 0) k
-    ∙ ap (λ (r : List ℕ). tag ++ r) (take-zeros k 16 (omega arith)) in
+    ∙ ap (λ (r : List ℕ). tag ++ r) (take-replicate k 16 0 (omega arith)) in
     let both : length (front ++ le 8 address) ≡ 24 = length-append front (le 8 address) ∙ omega (arith, length-le 8 address) in
     f
     ∙ ap (λ (r : List ℕ). sets r 16 (le 8 address)) (e ∙ sets-gap 128 k 0 tag (omega arith))
@@ -37,11 +37,6 @@ head-is tag b h address l e f =
     ∙ ap (λ (n : ℕ). (front ++ le 8 address) ++ replicate (128 - n) 0) both
     ∙ append_assoc front (le 8 address) (replicate 104 0)
     ∙ ap (λ (r : List ℕ). r ++ (le 8 address ++ replicate 104 0)) (sym cut)
-  where
-    take-zeros : (n m : ℕ) → n ≤ m → take {A = ℕ} n (replicate m 0) ≡ replicate n 0
-    take-zeros zero m h = refl
-    take-zeros (suc n) zero h = absurd (omega arith)
-    take-zeros (suc n) (suc m) h = ap (λ (r : List ℕ). 0 ∷ r) (take-zeros n m (omega arith))
 
 -- the address takes eight bytes, so it may be taken modulo 2^64
 pub head-wraps : (tag : List ℕ) (address : ℕ) → head_block tag (address % 2 ^ 64) ≡ head_block tag address
@@ -127,12 +122,6 @@ page-same s t i j h =
         let p : 16 * i + k + m ≡ 16 * i + (k + m) = omega arith in
         let q : 16 * j + (k + m) ≡ 16 * j + k + m = omega arith in
         ap (λ (x : ℕ). get_or s x 0) p ∙ h (k + m) l ∙ ap (λ (x : ℕ). get_or t x 0) q
-
--- the fields, read one by one
-pub page-read : (b : List ℕ) (address offset size : ℕ) → address ≡ number_at 8 b 0 → offset ≡ number_at 4 b 8 → size ≡ number_at 2 b 12
-    → ◌≡◌ {A = Page} (record { address = address; offset = offset; length = size; sort = get_or b 14 0; measured = get_or b 15 0 }) (page_at b 0)
-unfolding page_at
-page-read b address offset size e f g = cc (number_at-one b 14, number_at-one b 15)
 
 -- one that lies wholly in the buffer
 pub page-whole : (plan : List ℕ) (i : ℕ) → page_at (take (16 * i + 16 - 16 * i) (drop (16 * i) plan)) 0 ≡ page_at plan i

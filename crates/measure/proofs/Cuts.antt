@@ -2,19 +2,20 @@
 use Rattle.std.proofs.Common.{◌≡◌, ℕ, ◌+◌, ◌-◌, ◌<◌, ◌≤◌, min, false, List, [], ◌∷◌, length, replicate, ap, ◌∙◌, add_assoc, arith}
 use native.Mathlib.Decide.{ℕ_discrete}
 use Rattle.sha384.specs.Hash.{left384}
-use Rattle.verdict.specs.declared.Refusal.TheVariants as is
+use Rattle.std.specs.Prelude.{None, sum}
+use Rattle.std.proofs.lemmas.List.Sums.{sum_by-cons}
 use Rattle.measure.specs.declared.Progress.{Progress}
 use Rattle.measure.specs.declared.Turned.{Turned}
 use Rattle.measure.specs.Stream.{folded}
 use Rattle.measure.specs.Turn.{next_block, blocks_in, advanced, answered, halted, other_lengths, turned}
-use Rattle.measure.specs.Turns.{after_turns, lent_all, sum}
+use Rattle.measure.specs.Turns.{after_turns, lent_all}
 use Rattle.measure.proofs.Folded.{folded-add}
 use Rattle.measure.proofs.Quotas.{lengths-same, shown-finished, shown-unfinished, turned-quota, turned_on}
 use Rattle.measure.proofs.Held.{ran, ran-none, turned-ran}
 
 -- a state that is not refused, and what is lent has the lengths of the start
 pub record Ready (image plan : List ℕ) (s : Progress) : Type 0 where
-  pub none : s.refusal ≡ is.Nothing
+  pub none : s.refusal ≡ None
   pub long : length image ≡ s.image
   pub room : length plan ≡ s.plan
 
@@ -48,14 +49,14 @@ module _ (image plan : List ℕ) where
   -- ---- any turns
 
   pub cut : (s : Progress) → Ready image plan s → (qs : List ℕ) → after_turns s (lent_all image plan qs) ≡ ran s image plan (min (sum qs) (s.total - s.done))
-  unfolding after_turns lent_all sum ran
+  unfolding after_turns lent_all ran
   cut s r [] =
       let none : 0 ≡ min 0 (s.total - s.done) = omega arith in
       ran-none s image plan ∙ ap (ran s image plan) none
   cut s r (q ∷ qs) =
       let m : ℕ = min q (s.total - s.done) in
       let n : ℕ = min (sum qs) (s.total - (s.done + m)) in
-      let both : m + n ≡ min (q + sum qs) (s.total - s.done) = omega arith in
+      let both : m + n ≡ min (sum (q ∷ qs)) (s.total - s.done) = omega (arith, sum_by-cons (λ (k : ℕ). k) q qs) in
       ap (λ (t : Progress). after_turns t (lent_all image plan qs)) (turned-ran s image plan q ∙ ap (ran s image plan) (turn-blocks s q r))
       ∙ cut (ran s image plan m) (ready-ran s m r) qs
       ∙ ran-ran s m n

@@ -8,13 +8,14 @@ use Rattle.sha384.specs.Padding.{block}
 use Rattle.sha384.specs.Hash.{compressed, after}
 use Rattle.sha384.proofs.Pad.{padding-whole}
 use Rattle.sha384.proofs.Hash.{after_none, after-right}
-use Rattle.verdict.specs.declared.Refusal.TheVariants as is
+use Rattle.std.specs.Prelude.{Option, None, Some}
+use Rattle.verdict.specs.declared.Refusal.{Refusal}
 use Rattle.verdict.specs.Turns.{in_turn, up_to}
-use Rattle.verdict.proofs.Rules.{nothing?, either}
+use Rattle.verdict.proofs.Rules.{either}
 use Rattle.measure.specs.declared.Progress.{Progress}
 use Rattle.measure.specs.declared.Turned.{Turned}
 use Rattle.measure.specs.declared.TurnRefusal.{TurnRefusal}
-use Rattle.measure.specs.declared.TurnRefusal.TheVariants.{Nothing, Launch, Quota, Lengths}
+use Rattle.measure.specs.declared.TurnRefusal.TheVariants.{Launch, Quota, Lengths}
 use Rattle.measure.specs.Stream.{joined, folded}
 use Rattle.measure.specs.Turn.{whole_records, next_block, blocks_in, advanced, answered, halted, other_lengths, turned}
 use Rattle.measure.specs.Turns.{Lent, turn_of, after_turns, reported, reported_blocks, Held}
@@ -94,40 +95,40 @@ ran-none s image plan = rw (add-zero s.done)
 
 -- a turn is refused, and leaves all as it was, or it does the blocks that the definition names
 data Case (s : Progress) (image plan : List ℕ) (q : ℕ) : Type 0 where
-  stops : (r : TurnRefusal) → (r ≡ Nothing → ⊥) → turned s image plan q ≡ halted s r → Case s image plan q
+  stops : (r : TurnRefusal) → turned s image plan q ≡ halted s r → Case s image plan q
   goes : turned s image plan q ≡ answered (advanced s image plan q) (blocks_in s q) → Case s image plan q
 
 case-of : (s : Progress) (image plan : List ℕ) (q : ℕ) → Case s image plan q
-case-of s image plan q = refusal (nothing? s.refusal)
+case-of s image plan q = refusal s.refusal refl
   where
-    lengths : s.refusal ≡ is.Nothing → (q ≡ 0 → ⊥) → (other_lengths s (length image) (length plan) ≡ true) ⊎ (other_lengths s (length image) (length plan) ≡ false) → Case s image plan q
-    lengths k some (inl e) = stops Lengths (λ z. let n : ◌≡◌ {A = ℕ} 0 1 = cc in omega arith) (turned-lengths s image plan q k some e)
+    lengths : s.refusal ≡ None → (q ≡ 0 → ⊥) → (other_lengths s (length image) (length plan) ≡ true) ⊎ (other_lengths s (length image) (length plan) ≡ false) → Case s image plan q
+    lengths k some (inl e) = stops Lengths (turned-lengths s image plan q k some e)
     lengths k some (inr e) = goes (turned_on s image plan q k some e)
 
-    quota : s.refusal ≡ is.Nothing → Dec (q ≡ 0) → Case s image plan q
-    quota k (yes e) = stops Quota (λ z. let n : ◌≡◌ {A = ℕ} 0 1 = cc in omega arith) (turned-quota s image plan q k e)
+    quota : s.refusal ≡ None → Dec (q ≡ 0) → Case s image plan q
+    quota k (yes e) = stops Quota (turned-quota s image plan q k e)
     quota k (no some) = lengths k some (either (other_lengths s (length image) (length plan)))
 
-    refusal : Dec (s.refusal ≡ is.Nothing) → Case s image plan q
-    refusal (yes k) = quota k (ℕ_discrete q 0)
-    refusal (no m) = stops (Launch s.refusal) (λ z. let n : ◌≡◌ {A = ℕ} 0 1 = cc in omega arith) (turned-refused s image plan q m)
+    refusal : (r : Option Refusal) → s.refusal ≡ r → Case s image plan q
+    refusal None k = quota k (ℕ_discrete q 0)
+    refusal (Some r) e = stops (Launch r) (turned-refused s image plan q r e)
 
 pub turned-ran : (s : Progress) (image plan : List ℕ) (q : ℕ) → (turned s image plan q).next ≡ ran s image plan (turned s image plan q).blocks
 unfolding answered halted advanced ran
 turned-ran s image plan q = step (case-of s image plan q)
   where
     step : Case s image plan q → (turned s image plan q).next ≡ ran s image plan (turned s image plan q).blocks
-    step (stops r n e) = rw e (ran-none s image plan)
+    step (stops r e) = rw e (ran-none s image plan)
     step (goes e) = rw e
 
 -- "Refusals, state unchanged, 0 blocks", and 48 zero bytes: every turn that is refused
-pub refused-turn : (s : Progress) (image plan : List ℕ) (q : ℕ) → ((turned s image plan q).refusal ≡ Nothing → ⊥)
-    → turned s image plan q ≡ halted s (turned s image plan q).refusal
-unfolding answered halted
+pub refused-turn : (s : Progress) (image plan : List ℕ) (q : ℕ) → ((turned s image plan q).refusal ≡ None → ⊥)
+    → (r : TurnRefusal) × (turned s image plan q ≡ halted s r)
+unfolding answered
 refused-turn s image plan q n = step (case-of s image plan q)
   where
-    step : Case s image plan q → turned s image plan q ≡ halted s (turned s image plan q).refusal
-    step (stops r m e) = e ∙ ap (halted s) (sym (ap (λ (t : Turned). t.refusal) e))
+    step : Case s image plan q → (r : TurnRefusal) × (turned s image plan q ≡ halted s r)
+    step (stops r e) = (r, e)
     step (goes e) = absurd (n (ap (λ (t : Turned). t.refusal) e))
 
 -- no turn does more than is left
@@ -136,7 +137,7 @@ unfolding answered halted blocks_in
 turned-most s image plan q = step (case-of s image plan q)
   where
     step : Case s image plan q → (turned s image plan q).blocks ≤ s.total - s.done
-    step (stops r n e) = rw e (omega arith)
+    step (stops r e) = rw e (omega arith)
     step (goes e) = rw e (omega arith)
 
 -- its fields

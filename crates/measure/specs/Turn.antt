@@ -1,7 +1,7 @@
 -- The measurement in turns: what a turn does with the state that it is handed, and what it answers. The state is a `Progress`; the
 -- image and the plan are those that are lent in that turn.
 -- Assumes nothing.
-use Rattle.std.specs.Prelude.{ℕ, ◌+◌, ◌-◌, ◌*◌, ◌/◌, min, Bool, not, ◌&&◌, List, length, take, replicate, ◌==◌, nat_le}
+use Rattle.std.specs.Prelude.{ℕ, ◌+◌, ◌-◌, ◌*◌, ◌/◌, min, Bool, not, ◌&&◌, List, length, take, replicate, ◌==◌, nat_le, Option, None, Some, option_map, unwrap_or}
 use Rattle.sha384.specs.Padding.{padding}
 use Rattle.sha384.specs.Hash.{left384}
 use Rattle.verdict.specs.declared.Place.{Place}
@@ -11,24 +11,24 @@ use Rattle.verdict.specs.Rules.{pick}
 use Rattle.measure.specs.declared.Progress.{Progress}
 use Rattle.measure.specs.declared.Turned.{Turned}
 use Rattle.measure.specs.declared.TurnRefusal.{TurnRefusal}
-use Rattle.measure.specs.declared.TurnRefusal.TheVariants.{Nothing, Launch, Quota, Lengths}
+use Rattle.measure.specs.declared.TurnRefusal.TheVariants.{Launch, Quota, Lengths}
 use Rattle.measure.specs.Stream.{block_at, folded}
 
 -- ---- the refusals
 
 -- the refusals' numbers; 0 where nothing is refused
-unfoldable pub turn_number : TurnRefusal → ℕ
-turn_number Nothing = 0
-turn_number (Launch r) = number r
-turn_number Quota = 24
-turn_number Lengths = 27
+unfoldable pub turn_number : Option TurnRefusal → ℕ
+turn_number None = 0
+turn_number (Some (Launch r)) = number (Some r)
+turn_number (Some Quota) = 24
+turn_number (Some Lengths) = 27
 
 -- no place, but for the launch's own
-unfoldable pub turn_place : TurnRefusal → Place
-turn_place Nothing = Nowhere
-turn_place (Launch r) = place r
-turn_place Quota = Nowhere
-turn_place Lengths = Nowhere
+unfoldable pub turn_place : Option TurnRefusal → Place
+turn_place None = Nowhere
+turn_place (Some (Launch r)) = place (Some r)
+turn_place (Some Quota) = Nowhere
+turn_place (Some Lengths) = Nowhere
 
 -- ---- the blocks
 
@@ -69,11 +69,11 @@ unfoldable pub measurement_of : Progress → List ℕ
 measurement_of s = pick (is_finished s) (left384 s.hash) (replicate 48 0)
 
 unfoldable pub answered : Progress → ℕ → Turned
-answered next blocks = record { next = next; refusal = Nothing; blocks = blocks; measurement = measurement_of next }
+answered next blocks = record { next = next; refusal = None; blocks = blocks; measurement = measurement_of next }
 
 -- "Refusals, state unchanged, 0 blocks", "48 zero bytes"
 unfoldable pub halted : Progress → TurnRefusal → Turned
-halted s r = record { next = s; refusal = r; blocks = 0; measurement = replicate 48 0 }
+halted s r = record { next = s; refusal = Some r; blocks = 0; measurement = replicate 48 0 }
 
 -- "where the image or plan buffer has another length than at the start"
 unfoldable pub other_lengths : Progress → ℕ → ℕ → Bool
@@ -83,7 +83,7 @@ other_lengths s image plan = not (image == s.image && plan == s.plan)
 -- answer". Of a finished state nothing is left, so that its turn does 0 blocks and leaves it as it is
 unfoldable pub turned : Progress → List ℕ → List ℕ → ℕ → Turned
 turned s image plan q =
-    pick (not (number s.refusal == 0)) (halted s (Launch s.refusal))
+    unwrap_or (option_map (λ r. halted s (Launch r)) s.refusal)
     (pick (q == 0) (halted s Quota)
     (pick (other_lengths s (length image) (length plan)) (halted s Lengths)
     (answered (advanced s image plan q) (blocks_in s q))))

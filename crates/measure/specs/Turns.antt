@@ -51,7 +51,3 @@ pub record Held (s : Progress) (ls : List Lent) : Type 0 where
 
 unfoldable pub lent_all : List ℕ → List ℕ → List ℕ → List Lent
 lent_all image plan quotas = map (λ q. record { image = image; plan = plan; quota = q }) quotas
-
-unfoldable pub sum : List ℕ → ℕ
-sum [] = 0
-sum (q ∷ qs) = q + sum qs

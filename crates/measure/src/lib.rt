@@ -7,7 +7,6 @@
 #![tactic(auto)]
 
 ghost use Rattle.std.specs.Prelude.{◌≡◌, ◌+◌, ◌-◌, ◌*◌, ◌^◌, ◌<◌, ◌≤◌, min, [], length, take, drop, slice_index_or};
-ghost use Rattle.sha384.specs.Constants.{K};
 ghost use Rattle.sha384.specs.Hash.{compressed};
 ghost use Rattle.plan.specs.Plan.{page_at};
 ghost use Rattle.plan.specs.View.{content, held};
@@ -18,6 +17,7 @@ use plan::Page;
 use sha384::State;
 use std::num::wrapping_add_u64;
 use verdict::{Place, Refusal, number_of, place_of};
+use wire::LittleEndian;
 
 // Where a block stands: block `block` of the page of record `record`.
 #[derive(Clone, Copy)]
@@ -31,31 +31,23 @@ pub struct Cursor {
 // The only last byte of a record that measures its page.
 const MEASURED: u8 = 1;
 
-// The smaller of a place and a length: where a part that may start past the end starts.
-fn within(at: usize, length: usize) -> usize
-    ensures { result ≡ min at length }
-{
-    if at < length {
-        return at;
-    }
-    length
-}
-
 // The page of a record that is lent whole.
+#[tactic(auto, unfolding(plan::specs::Plan::page_at, wire::specs::Number::number_at))]
 fn page_in(bytes: &[u8]) -> Page
     requires { 16 ≤ length bytes.now }
     ensures { result ≡ page_at bytes.now 0 }
 {
     Page {
-        address: wire::u64_at(bytes, 0),
-        offset: wire::u32_at(bytes, 8),
-        length: wire::u16_at(bytes, 12),
+        address: u64::number_at(bytes, 0),
+        offset: u32::number_at(bytes, 8),
+        length: u16::number_at(bytes, 12),
         sort: bytes[14],
         measured: bytes[15],
     }
 }
 
-// The page of a record. What the plan's end cuts off reads as zeros.
+// The page of a record, by the plan and the record's number: any number names one, so nothing ties the two. What the plan's end cuts off
+// reads as zeros.
 pub fn page_at(plan: &[u8], index: usize) -> Page
     requires { index < 2 ^ 59 }
     ensures { result ≡ page_at plan.now index }
@@ -65,7 +57,7 @@ pub fn page_at(plan: &[u8], index: usize) -> Page
     if end <= plan.len() {
         return page_in(&plan[at..end]);
     }
-    let first = within(at, plan.len());
+    let first = at.min(plan.len());
     let mut last = [0u8; 16];
     wire::copy(&mut last, 0, &plan[first..]);
     page_in(&last)
@@ -88,14 +80,11 @@ fn record_page(plan: &[u8], index: usize) -> Page
 }
 
 // How many blocks a record gives: the page is added, and only the byte 1 measures it.
+#[tactic(auto, using(crate::proofs::Blocks::count_past), unfolding(crate::specs::Stream::count_of, plan::specs::Plan::page_at, wire::specs::Number::number_at))]
 fn count_of(plan: &[u8], index: usize) -> usize
     ensures { result ≡ count_of plan.now index }
 {
-    if plan.len() / 16 <= index {
-        return 1;
-    }
-    let at = 16 * index + 15;
-    if plan[at] == MEASURED {
+    if index < plan.len() / 16 && plan[16 * index + 15] == MEASURED {
         return 49;
     }
     1
@@ -106,13 +95,7 @@ pub fn count_blocks(plan: &[u8], records: usize) -> u64
     requires { records ≤ 2 ^ 32 }
     ensures { result ≡ before plan.now records }
 {
-    let mut total: u64 = 0;
-    let mut index = 0;
-    while index < records {
-        total += count_of(plan, index) as u64;
-        index += 1;
-    }
-    total
+    (0..records).map(|index| count_of(plan, index) as u64).sum()
 }
 
 // The cursor moved on until its record has its block: from record 0 this finds a block of the stream by its number, and from
@@ -123,22 +106,17 @@ fn forward(plan: &[u8], c: Cursor) -> Cursor
         × (result.block < count_of plan.now result.record)
         × (result.record ≤ c.record + c.block) }
 {
-    let records = plan.len() / 16;
-    let mut index = c.record;
+    let end = c.record.max(plan.len() / 16);
     let mut block = c.block;
-    while index < records {
-        let count = count_of(plan, index);
+    for record in c.record..end {
+        let count = count_of(plan, record);
         if block < count {
-            return Cursor {
-                record: index,
-                block,
-            };
+            return Cursor { record, block };
         }
         block -= count;
-        index += 1;
     }
     Cursor {
-        record: index + block,
+        record: end + block,
         block: 0,
     }
 }
@@ -152,63 +130,55 @@ fn head(tag: &[u8], address: u64) -> [u8; 128]
 {
     let mut block = [0u8; 128];
     wire::copy(&mut block, 0, tag);
-    wire::put_u64(&mut block, 16, address);
+    address.put_at(&mut block, 16);
     block
 }
 
 // The hash value after the block at `at` of a page that shows `shown`. A block that lies wholly in it is hashed where it
 // stands; only one with a zero tail is built.
-fn data(state: State, shown: &[u8], at: usize, table: &[u64; 80]) -> State
+fn data(state: State, shown: &[u8], at: usize) -> State
     requires within_page { at + 128 ≤ 4096 }
-    requires constants { table.now ≡ K }
     ensures { result ≡ compressed state (take 128 (drop at (content shown.now))) }
 {
     let end = at + 128;
     if end <= shown.len() {
-        return sha384::block(state, &shown[at..end], table);
+        return sha384::block(state, &shown[at..end]);
     }
-    let first = within(at, shown.len());
+    let first = at.min(shown.len());
     let mut block = [0u8; 128];
     wire::copy(&mut block, 0, &shown[first..]);
-    sha384::block(state, &block, table)
+    sha384::block(state, &block)
 }
 
 // The hash value after the block at a cursor. No HOB list is lent: what is measured is in the image. A lent plan's address may
 // be so high that a chunk's passes 2^64: it is taken modulo 2^64, as its eight bytes are.
-fn absorb_block(state: State, image: &[u8], plan: &[u8], c: Cursor, table: &[u64; 80]) -> State
+#[tactic(auto, using(crate::proofs::Blocks::count_most))]
+fn absorb_block(state: State, image: &[u8], plan: &[u8], c: Cursor) -> State
     requires stands { c.block < count_of plan.now c.record }
-    requires constants { table.now ≡ K }
     ensures { result ≡ compressed state (slice_index_or (page_blocks (page_at plan.now c.record)
         (held image.now [] (page_at plan.now c.record))) c.block []) }
 {
     let p = record_page(plan, c.record);
     let n = c.block;
     if n == 0 {
-        return sha384::block(state, &head(b"MEM.PAGE.ADD", p.address), table);
+        return sha384::block(state, &head(b"MEM.PAGE.ADD", p.address));
     }
     let chunk = (n - 1) / 3;
     let place = (n - 1) % 3;
     if place == 0 {
         let address = wrapping_add_u64(p.address, 256 * chunk as u64);
-        return sha384::block(state, &head(b"MR.EXTEND", address), table);
+        return sha384::block(state, &head(b"MR.EXTEND", address));
     }
     let shown = plan::view(image, &image[0..0], p.offset, p.length, p.sort);
-    data(state, shown, 256 * chunk + 128 * (place - 1), table)
+    data(state, shown, 256 * chunk + 128 * (place - 1))
 }
 
 // ---- the digest
 
 // The hash value after `blocks` blocks more, from block `from` on.
-pub fn absorb(
-    state: State,
-    image: &[u8],
-    plan: &[u8],
-    from: u64,
-    blocks: u64,
-    table: &[u64; 80],
-) -> State
+#[tactic(auto, using(crate::proofs::Blocks::count_most))]
+pub fn absorb(state: State, image: &[u8], plan: &[u8], from: u64, blocks: u64) -> State
     requires few_blocks { from + blocks < 2 ^ 64 }
-    requires constants { table.now ≡ K }
     ensures { result ≡ folded (block_at image.now plan.now) state from blocks }
 {
     let mut value = state;
@@ -219,9 +189,8 @@ pub fn absorb(
             block: from as usize,
         },
     );
-    let mut done = 0;
-    while done < blocks {
-        value = absorb_block(value, image, plan, c, table);
+    for done in 0..blocks {
+        value = absorb_block(value, image, plan, c);
         c = forward(
             plan,
             Cursor {
@@ -229,19 +198,18 @@ pub fn absorb(
                 block: c.block + 1,
             },
         );
-        done += 1;
     }
     value
 }
 
 // The measurement: SHA-384 of the first `blocks` blocks. They are whole, so nothing is left for the padding's block.
+#[tactic(auto, unfolding(crate::specs::Stream::digest_of))]
 pub fn measure(image: &[u8], plan: &[u8], blocks: u64) -> [u8; 48]
     requires { blocks ≤ 2 ^ 32 }
     ensures { result ≡ digest_of image.now plan.now blocks }
 {
-    let table = sha384::table();
-    let state = absorb(sha384::start(), image, plan, 0, blocks, &table);
-    sha384::finish(state, &image[0..0], 128 * blocks, &table)
+    let state = absorb(sha384::start(), image, plan, 0, blocks);
+    sha384::finish(state, &image[0..0], 128 * blocks)
 }
 
 // ---- the turns
@@ -257,15 +225,13 @@ pub struct Progress {
     // How long the image and the plan buffer were at the start.
     pub image: u64,
     pub plan: u64,
-    // The launch's refusal, or nothing.
-    pub refusal: Refusal,
+    // The launch's refusal, if it was refused.
+    pub refusal: Option<Refusal>,
 }
 
 // Why a turn was refused. `specs/Turn.antt` has the numbers.
 #[derive(Clone, Copy)]
 pub enum TurnRefusal {
-    // It was not.
-    Nothing,
     // The launch was refused, with this.
     Launch(Refusal),
     // 24: the quota is 0.
@@ -274,27 +240,29 @@ pub enum TurnRefusal {
     Lengths,
 }
 
-// The number of why a turn was refused; 0 where it was not.
-pub fn turn_number(refusal: TurnRefusal) -> u32
+// The number of why a turn was refused; 0 where it was not. It is no `From`: `turn_number` of `specs/Turn.antt` speaks of none too.
+#[tactic(auto, unfolding(crate::specs::Turn::turn_number))]
+pub fn turn_number(refusal: Option<TurnRefusal>) -> u32
     ensures { result ≡ turn_number refusal }
 {
     match refusal {
-        TurnRefusal::Nothing => 0,
-        TurnRefusal::Launch(broken) => number_of(broken),
-        TurnRefusal::Quota => 24,
-        TurnRefusal::Lengths => 27,
+        None => 0,
+        Some(TurnRefusal::Launch(broken)) => number_of(Some(broken)),
+        Some(TurnRefusal::Quota) => 24,
+        Some(TurnRefusal::Lengths) => 27,
     }
 }
 
 // Its place: none, but for the launch's own.
-pub fn turn_place(refusal: TurnRefusal) -> Place
+#[tactic(auto, unfolding(crate::specs::Turn::turn_place))]
+pub fn turn_place(refusal: Option<TurnRefusal>) -> Place
     ensures { result ≡ turn_place refusal }
 {
     match refusal {
-        TurnRefusal::Nothing => Place::Nowhere,
-        TurnRefusal::Launch(broken) => place_of(broken),
-        TurnRefusal::Quota => Place::Nowhere,
-        TurnRefusal::Lengths => Place::Nowhere,
+        None => Place::Nowhere,
+        Some(TurnRefusal::Launch(broken)) => place_of(Some(broken)),
+        Some(TurnRefusal::Quota) => Place::Nowhere,
+        Some(TurnRefusal::Lengths) => Place::Nowhere,
     }
 }
 
@@ -303,25 +271,12 @@ pub fn turn_place(refusal: TurnRefusal) -> Place
 pub struct Turned {
     // The state for the next turn.
     pub next: Progress,
-    pub refusal: TurnRefusal,
+    // Why it was refused, if it was.
+    pub refusal: Option<TurnRefusal>,
     // How many blocks were done.
     pub blocks: u64,
-    // The measurement where it is finished, else zeros.
+    // The measurement where it is finished, else the 48 zero bytes that the page asks for: no `Option`.
     pub measurement: [u8; 48],
-}
-
-// The smaller of a quota and what is left of a total.
-fn smaller(quota: u64, total: u64, done: u64) -> u64
-    ensures { result ≡ min quota (total - done) }
-{
-    if total <= done {
-        return 0;
-    }
-    let left = total - done;
-    if quota < left {
-        return quota;
-    }
-    left
 }
 
 // The hash value after the next blocks. The last of the total is the padding's, and the others are the stream's, of the plan's
@@ -331,70 +286,71 @@ fn advance(state: Progress, image: &[u8], plan: &[u8], blocks: u64) -> State
     requires left { state.done + blocks ≤ state.total }
     ensures { result ≡ folded (next_block image.now plan.now state.total) state.hash state.done blocks }
 {
-    let table = sha384::table();
     let whole = state.total - 1;
-    let stream = smaller(blocks, whole, state.done);
+    let stream = blocks.min(whole.saturating_sub(state.done));
     let end = 16 * (plan.len() / 16);
-    let value = absorb(state.hash, image, &plan[..end], state.done, stream, &table);
+    let value = absorb(state.hash, image, &plan[..end], state.done, stream);
     if stream == blocks {
         return value;
     }
-    sha384::block(value, &sha384::padding_block(whole), &table)
+    sha384::block(value, &sha384::padding_block(whole))
 }
 
 // The answer of a turn that was not refused.
+#[tactic(auto, unfolding(crate::specs::Turn::answered, crate::specs::Turn::measurement_of, crate::specs::Turn::is_finished))]
 fn answered(next: Progress, blocks: u64) -> Turned
     ensures { result ≡ answered next blocks }
 {
-    let mut measurement = [0u8; 48];
-    if next.total <= next.done {
-        measurement = sha384::leftmost(next.hash);
-    }
+    let measurement = if next.total <= next.done {
+        sha384::leftmost(next.hash)
+    } else {
+        [0; 48]
+    };
     Turned {
         next,
-        refusal: TurnRefusal::Nothing,
+        refusal: None,
         blocks,
         measurement,
     }
 }
 
 // The answer of a turn that was refused.
+#[tactic(auto, unfolding(crate::specs::Turn::halted))]
 fn halted(state: Progress, refusal: TurnRefusal) -> Turned
     ensures { result ≡ halted state refusal }
 {
     Turned {
         next: state,
-        refusal,
+        refusal: Some(refusal),
         blocks: 0,
         measurement: [0; 48],
     }
 }
 
 // Whether the image or the plan buffer has another length than at the start.
+#[tactic(auto, unfolding(crate::specs::Turn::other_lengths))]
 fn other_lengths(state: Progress, image: u64, plan: u64) -> bool
     ensures { result ≡ other_lengths state image plan }
 {
-    if image != state.image {
-        return true;
-    }
-    plan != state.plan
+    image != state.image || plan != state.plan
 }
 
-// A turn: at most `quota` blocks of the measurement. It takes every state, also one that no start and no turn gave.
+// A turn: at most `quota` blocks of the measurement. It takes every state, also one that no start and no turn gave. The image and the plan
+// are two slices, as C lends them, and the functions above get them from here.
+#[tactic(auto, unfolding(crate::specs::Turn::turned, crate::specs::Turn::advanced, crate::specs::Turn::blocks_in, crate::specs::Stream::folded))]
 pub fn turn(state: Progress, image: &[u8], plan: &[u8], quota: u64) -> Turned
     ensures { result ≡ turned state image.now plan.now quota }
 {
-    let refusal = state.refusal;
-    let Refusal::Nothing = refusal else {
+    if let Some(refusal) = state.refusal {
         return halted(state, TurnRefusal::Launch(refusal));
-    };
+    }
     if quota == 0 {
         return halted(state, TurnRefusal::Quota);
     }
     if other_lengths(state, image.len() as u64, plan.len() as u64) {
         return halted(state, TurnRefusal::Lengths);
     }
-    let blocks = smaller(quota, state.total, state.done);
+    let blocks = quota.min(state.total.saturating_sub(state.done));
     if blocks == 0 {
         return answered(state, 0);
     }
@@ -403,10 +359,7 @@ pub fn turn(state: Progress, image: &[u8], plan: &[u8], quota: u64) -> Turned
         Progress {
             hash,
             done: state.done + blocks,
-            total: state.total,
-            image: state.image,
-            plan: state.plan,
-            refusal,
+            ..state
         },
         blocks,
     )

@@ -5,14 +5,13 @@ use mathlib.Core.List.{List, [], ◌∷◌, ◌++◌, map as each}
 use Prim.Native.Nat.{ℕ, ◌-◌, ◌*◌, ◌^◌}
 use lib.Dec.{eqb}
 use lib.ListN.{replicate}
+use Rattle.std.specs.Prelude.{Result, Ok, Err, None, Some}
 use Rattle.wire.specs.Number.{le, number_at}
 use Rattle.verdict.specs.Turns.{in_turn}
 use Rattle.memory.specs.declared.Record.{Record}
 use Rattle.memory.specs.declared.Cause.TheVariants as cause
 use Rattle.memory.specs.declared.Fault.{Fault}
-use Rattle.memory.specs.declared.Fault.TheVariants.{Nothing, At}
-use Rattle.memory.specs.declared.Lies.TheVariants.{In, Outside}
-use Rattle.memory.specs.Map.{record_at, records, count_broken, multiple_broken, top, end_broken, kind_broken, order_broken, end_before, Tried, record_tried, map_tried, first_fault, holds, inside, ram_or, lies}
+use Rattle.memory.specs.Map.{record_at, records, count_broken, multiple_broken, top, end_broken, kind_broken, order_broken, end_before, Tried, fault_at, record_tried, map_tried, first_fault, holds, inside, ram_or, lies}
 
 -- ---- ends
 
@@ -105,22 +104,22 @@ records-65 = refl
 
 -- ---- the first fault
 
-pub answer : ℕ → List ℕ → Fault
+pub answer : ℕ → List ℕ → Result (Unit {0}) Fault
 unfolding broken first_fault
 answer width m = first_fault (map_tried width m)
 
 -- touching records of all three kinds
-pub three-kinds : answer 48 (bytes 0 0x1000 1 0 ++ bytes 0x1000 0x1000 2 0 ++ bytes 0x2000 0x1000 3 0) ≡ Nothing
+pub three-kinds : answer 48 (bytes 0 0x1000 1 0 ++ bytes 0x1000 0x1000 2 0 ++ bytes 0x2000 0x1000 3 0) ≡ Ok tt
 unfolding answer bytes
 three-kinds = refl
 
 -- the kind of record 0 comes before the start of record 1
-pub first-record : answer 48 (bytes 0 0x1000 4 0 ++ bytes 0x1800 0x1000 1 0) ≡ At cause.Kind 0
+pub first-record : answer 48 (bytes 0 0x1000 4 0 ++ bytes 0x1800 0x1000 1 0) ≡ Err (fault_at cause.Kind 0)
 unfolding answer bytes
 first-record = refl
 
 -- and of one record the start before the kind
-pub first-rule : answer 48 (bytes 0 0x1000 1 0 ++ bytes 0x1800 0x1000 4 0) ≡ At cause.Multiple 1
+pub first-rule : answer 48 (bytes 0 0x1000 1 0 ++ bytes 0x1800 0x1000 4 0) ≡ Err (fault_at cause.Multiple 1)
 unfolding answer bytes
 first-rule = refl
 
@@ -149,11 +148,11 @@ pub mixed : List ℕ
 unfolding bytes
 mixed = bytes 0 0x10000 1 0 ++ bytes 0xFFFFF000 0x1000 2 0
 
-pub firmware-is-outside : lies (ram_or false) (records mixed) 0 0xFFFFF000 0x1000 ≡ Outside
+pub firmware-is-outside : lies (ram_or false) (records mixed) 0 0xFFFFF000 0x1000 ≡ None
 unfolding mixed number_at record_at records in_turn holds ram_or lies
 firmware-is-outside = refl
 
-pub firmware-is-in-1 : lies (ram_or true) (records mixed) 0 0xFFFFF000 0x1000 ≡ In 1
+pub firmware-is-in-1 : lies (ram_or true) (records mixed) 0 0xFFFFF000 0x1000 ≡ Some 1
 unfolding mixed number_at record_at records in_turn holds ram_or lies
 firmware-is-in-1 = refl
 
@@ -166,11 +165,11 @@ unfolding mixed number_at record_at records in_turn holds ram_or inside
 firmware-inside = refl
 
 -- RAM is inside either way, up to the record's last byte and not a byte further
-pub ram-is-in-0 : lies (ram_or false) (records mixed) 0 0x1000 0xF000 ≡ In 0
+pub ram-is-in-0 : lies (ram_or false) (records mixed) 0 0x1000 0xF000 ≡ Some 0
 unfolding mixed number_at record_at records in_turn holds ram_or lies
 ram-is-in-0 = refl
 
-pub ram-to-the-end : lies (ram_or true) (records mixed) 0 0x1000 0xF001 ≡ Outside
+pub ram-to-the-end : lies (ram_or true) (records mixed) 0 0x1000 0xF001 ≡ None
 unfolding mixed number_at record_at records in_turn holds ram_or lies
 ram-to-the-end = refl
 
@@ -178,7 +177,7 @@ ram-to-the-end = refl
 pub wide : Record
 wide = record { start = 0; length = 2 ^ 52; kind = 1; filler = 0 }
 
-pub wrapped-is-outside : lies (ram_or false) (wide ∷ []) 0 (2 ^ 64 - 4096) 8192 ≡ Outside
+pub wrapped-is-outside : lies (ram_or false) (wide ∷ []) 0 (2 ^ 64 - 4096) 8192 ≡ None
 unfolding wide holds ram_or lies
 wrapped-is-outside = refl
 

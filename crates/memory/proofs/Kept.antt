@@ -9,12 +9,12 @@ use native.Mathlib.Decide.{ℕ_discrete}
 use native.Mathlib.Numerals.{add-one}
 use native.Mathlib.Omega.{arith}
 use lib.ListN.{length}
+use Rattle.std.specs.Prelude.{Ok, Err}
 use Rattle.verdict.specs.Turns.{in_turn}
 use Rattle.verdict.proofs.Turns.{turn-none}
 use Rattle.memory.specs.declared.Record.{Record}
 use Rattle.memory.specs.declared.Cause.TheVariants as cause
-use Rattle.memory.specs.declared.Fault.TheVariants.{Nothing, At}
-use Rattle.memory.specs.Map.{record_at, record_count, end, count_broken, width_allowed, top, end_before, Tried, record_tried, map_tried, first_fault}
+use Rattle.memory.specs.Map.{record_at, record_count, end, count_broken, width_allowed, top, end_before, Tried, fault_at, record_tried, map_tried, first_fault}
 use Rattle.memory.proofs.First.{first-none, first-kept, first-broken, first-cons, turns_next, turns-stop, turns-each, turns-all}
 use Rattle.memory.proofs.Broken.{Counted, Paged, Kinded, count_kept, multiple-kept, end_kept, kind-kept, order-kept, top-low}
 
@@ -31,7 +31,7 @@ pub record KeptRecord (width before : ℕ) (r : Record) : Type 0 where
   pub filler-zero : r.filler ≡ 0
   pub behind : before ≤ r.start
 
-pub kept_record : (width before : ℕ) (r : Record) (i : ℕ) → (first_fault (record_tried width before r i) ≡ Nothing) ↔ KeptRecord width before r
+pub kept_record : (width before : ℕ) (r : Record) (i : ℕ) → (first_fault (record_tried width before r i) ≡ Ok tt) ↔ KeptRecord width before r
 unfolding record_tried
 kept_record width before r i = (
   λ e.
@@ -60,7 +60,7 @@ kept_record width before r i = (
 )
 
 -- its end is far below 2 ^ 64
-pub end_fits : (width before : ℕ) (r : Record) (i : ℕ) → width_allowed width ≡ true → first_fault (record_tried width before r i) ≡ Nothing → end r ≤ 2 ^ 52
+pub end_fits : (width before : ℕ) (r : Record) (i : ℕ) → width_allowed width ≡ true → first_fault (record_tried width before r i) ≡ Ok tt → end r ≤ 2 ^ 52
 end_fits width before r i w e =
     let k : KeptRecord width before r = (kept_record width before r i).0 e in
     omega (arith, top-low r.kind width w)
@@ -83,10 +83,10 @@ row width map i = record_tried width (end_before map i) (record_at map i) i
 
 -- none of the first n records has a fault
 unfoldable pub Passed : ℕ → List ℕ → ℕ → Type 0
-Passed width map n = first_fault (in_turn (row width map) n) ≡ Nothing
+Passed width map n = first_fault (in_turn (row width map) n) ≡ Ok tt
 
 module _ (width : ℕ) (map : List ℕ) where
-  pub count-fault : count_broken map ≡ true → first_fault (map_tried width map) ≡ At cause.Count 0
+  pub count-fault : count_broken map ≡ true → first_fault (map_tried width map) ≡ Err (fault_at cause.Count 0)
   unfolding map_tried
   count-fault e = first-broken _ _ e
 
@@ -98,17 +98,17 @@ module _ (width : ℕ) (map : List ℕ) where
     same : first_fault (record_tried width before r i) ≡ first_fault (row width map i)
     same = cc
 
-    pub pass-next : first_fault (record_tried width before r i) ≡ Nothing → Passed width map (i + 1)
+    pub pass-next : first_fault (record_tried width before r i) ≡ Ok tt → Passed width map (i + 1)
     unfolding Passed
     pass-next k = turns_next (row width map) i p ∙ sym same ∙ k
 
     -- the first record with a fault is the answer
-    pub pass-stop : count_broken map ≡ false → i < record_count map → (first_fault (record_tried width before r i) ≡ Nothing → ⊥) → first_fault (record_tried width before r i) ≡ first_fault (map_tried width map)
+    pub pass-stop : count_broken map ≡ false → i < record_count map → (first_fault (record_tried width before r i) ≡ Ok tt → ⊥) → first_fault (record_tried width before r i) ≡ first_fault (map_tried width map)
     unfolding Passed map_tried
     pass-stop c l h =
         same ∙ sym (first-kept _ _ c ∙ turns-stop (row width map) i (record_count map) p l (λ q. h (same ∙ q)))
 
-  pub pass-end : count_broken map ≡ false → (i : ℕ) → i ≡ record_count map → Passed width map i → first_fault (map_tried width map) ≡ Nothing
+  pub pass-end : count_broken map ≡ false → (i : ℕ) → i ≡ record_count map → Passed width map i → first_fault (map_tried width map) ≡ Ok tt
   unfolding Passed map_tried
   pass-end c i e p = first-kept _ _ c ∙ ap (λ (n : ℕ). first_fault (in_turn (row width map) n)) (sym e) ∙ p
 
@@ -121,7 +121,7 @@ pub record KeptMap (width : ℕ) (map : List ℕ) : Type 0 where
   pub each : (i : ℕ) → i < record_count map → KeptRecord width (end_before map i) (record_at map i)
 
 -- a map has no fault exactly if it is so
-pub kept-exactly : (width : ℕ) (map : List ℕ) → (first_fault (map_tried width map) ≡ Nothing) ↔ KeptMap width map
+pub kept-exactly : (width : ℕ) (map : List ℕ) → (first_fault (map_tried width map) ≡ Ok tt) ↔ KeptMap width map
 unfolding map_tried
 kept-exactly width map = (
   λ e.
@@ -139,7 +139,7 @@ kept-exactly width map = (
 )
 
 -- the inversion that callers cite
-pub kept_map : (width : ℕ) (map : List ℕ) → first_fault (map_tried width map) ≡ Nothing → KeptMap width map
+pub kept_map : (width : ℕ) (map : List ℕ) → first_fault (map_tried width map) ≡ Ok tt → KeptMap width map
 kept_map width map = (kept-exactly width map).0
 
 -- the records stand one behind another, and none shares an address with another

@@ -1,22 +1,20 @@
 -- Page 01, "The memory map": records, the rules that a map keeps, and "lies wholly inside one map record of an allowed kind".
 -- Ends are whole numbers. Bytes past the map's end read as 0.
 -- Assumes nothing.
-use Rattle.std.specs.Prelude.{Bool, false, ◌&&◌, ◌||◌, not, List, [], ◌∷◌, map as each, ℕ, zero, suc, ◌+◌, ◌*◌, ◌/◌, ◌%◌, ◌^◌, leb, ltb, eqb, length}
+use Rattle.std.specs.Prelude.{Bool, false, ◌&&◌, ◌||◌, not, List, [], ◌∷◌, map as each, ℕ, zero, suc, ◌+◌, ◌*◌, ◌/◌, ◌%◌, ◌^◌, ◌≡◌, leb, ltb, eqb, length, Result, Ok, Err, MatchResult, is_ok, Option, None, Some}
 use Rattle.wire.specs.Number.{number_at}
 use Rattle.verdict.specs.declared.Place.{Place}
 use Rattle.verdict.specs.declared.Place.TheVariants.{Nowhere}
 use Rattle.verdict.specs.declared.Refusal.{Refusal}
-use Rattle.verdict.specs.declared.Refusal.TheVariants as refusal
 use Rattle.verdict.specs.Refusal.{refusal_of}
 use Rattle.verdict.specs.Turns.{in_turn, up_to}
-use Rattle.verdict.specs.Rules.{Rule, rule, pick}
+use Rattle.verdict.specs.Rules.{Rule, Verdict, rule, pick}
 use Rattle.memory.specs.declared.Record.{Record}
 use Rattle.memory.specs.declared.Cause.{Cause}
 use Rattle.memory.specs.declared.Cause.TheVariants as cause
 use Rattle.memory.specs.declared.Fault.{Fault}
-use Rattle.memory.specs.declared.Fault.TheVariants.{Nothing, At}
-use Rattle.memory.specs.declared.Lies.{Lies}
-use Rattle.memory.specs.declared.Lies.TheVariants.{In, Outside}
+use Rattle.memory.specs.declared.Width.{Width}
+use Rattle.memory.specs.declared.Width.TheVariants.{Bits48, Bits52}
 
 -- ---- the records
 
@@ -54,6 +52,15 @@ multiple_broken r = not (eqb (r.start % 4096) 0) || not (eqb (r.length % 4096) 0
 -- the widths that a launch allows
 unfoldable pub width_allowed : ℕ → Bool
 width_allowed width = eqb width 48 || eqb width 52
+
+-- how many bits a width has
+unfoldable pub bits : Width → ℕ
+bits Bits48 = 48
+bits Bits52 = 52
+
+-- what a number of bits gives: the width of so many where the number is allowed, and else refusal 2 of page 01, which names no place
+abbrev pub Widens : ℕ → Result Width Refusal → Type 0
+Widens n r = (is_ok r ≡ width_allowed n) × MatchResult r (λ w. bits w ≡ n) (λ e. e ≡ refusal_of 2 Nowhere)
 
 -- the highest end that a record of this kind may have under an address width
 unfoldable pub top : ℕ → ℕ → ℕ
@@ -100,10 +107,14 @@ map_tried width map =
     tried cause.Count 0 (count_broken map) ∷
     in_turn (λ i. record_tried width (end_before map i) (record_at map i) i) (record_count map)
 
--- the first that is broken
-unfoldable pub first_fault : List Tried → Fault
-first_fault [] = Nothing
-first_fault (t ∷ ts) = let rest = first_fault ts in pick t.broken (At t.cause t.at) rest
+-- a fault by its cause and its record
+abbrev pub fault_at : Cause → ℕ → Fault
+fault_at c i = record { cause = c; «record» = i }
+
+-- what the row comes to: all are kept, or the first that is broken
+unfoldable pub first_fault : List Tried → Result (Unit {0}) Fault
+first_fault [] = Ok tt
+first_fault (t ∷ ts) = let rest = first_fault ts in pick t.broken (Err (fault_at t.cause t.at)) rest
 
 -- the number and the place that a cause at a record is answered with: page 01 calls each of them 4 and names no place
 unfoldable pub cause_number : Cause → ℕ
@@ -122,8 +133,12 @@ cause_place cause.Order i = Nowhere
 
 -- the refusal that a fault is answered with
 unfoldable pub fault_refusal : Fault → Refusal
-fault_refusal Nothing = refusal.Nothing
-fault_refusal (At c i) = refusal_of (cause_number c) (cause_place c i)
+fault_refusal f = refusal_of (cause_number f.cause) (cause_place f.cause f.«record»)
+
+-- the verdict on a row that comes to it
+abbrev pub fault_verdict : Result (Unit {0}) Fault → Verdict
+fault_verdict (Ok u) = Ok tt
+fault_verdict (Err f) = Err (fault_refusal f)
 
 -- the map's part of the row of rules
 abbrev pub as_rule : Tried → Rule
@@ -148,8 +163,8 @@ unfoldable pub ram_or : Bool → ℕ → Bool
 ram_or firmware kind = eqb kind 1 || firmware && eqb kind 2
 
 -- which record of an allowed kind it is, the first of them, counted from i
-unfoldable pub lies : (ℕ → Bool) → List Record → ℕ → ℕ → ℕ → Lies
-lies allowed [] i address size = Outside
+unfoldable pub lies : (ℕ → Bool) → List Record → ℕ → ℕ → ℕ → Option ℕ
+lies allowed [] i address size = None
 lies allowed (r ∷ rs) i address size =
     let rest = lies allowed rs (suc i) address size in
-    pick (allowed r.kind && holds r address size) (In i) rest
+    pick (allowed r.kind && holds r address size) (Some i) rest

@@ -5,15 +5,18 @@
 
 #![tactic(auto)]
 
-ghost use Rattle.std.specs.Prelude.{◌≡◌, true, ◌&&◌, ◌+◌, ◌*◌, ◌≤◌, length};
-ghost use Rattle.memory.specs.Map.{record_at, records, count_broken, multiple_broken, width_allowed, top, end_broken, kind_broken, order_broken, record_tried, map_tried, first_fault, holds, ram_or, lies};
+ghost use Rattle.std.specs.Prelude.{◌≡◌, ◌&&◌, ◌+◌, ◌*◌, ◌≤◌, length};
+ghost use Rattle.memory.specs.Map.{record_at, records, count_broken, multiple_broken, bits, Widens, top, end_broken, kind_broken, order_broken, record_tried, map_tried, first_fault, fault_refusal, holds, ram_or, lies};
+
+use verdict::{Place, Refusal};
+use wire::LittleEndian;
 
 // A record of the map.
 #[derive(Clone, Copy)]
 pub struct Record {
     pub start: u64,
     pub length: u64,
-    // 1 RAM, 2 firmware, 3 MMIO.
+    // 1 RAM, 2 firmware, 3 MMIO. It is a number and no enum: a record is read before its rules are tried, and rule 4 refuses the others.
     pub kind: u32,
     // The four bytes behind the kind, which are zero.
     pub filler: u32,
@@ -34,21 +37,44 @@ pub enum Cause {
     Order,
 }
 
-// The first fault of a map.
+// The first fault of a map: what is wrong, and at which record, counted from 0; a wrong count is no record's, and has 0.
 #[derive(Clone, Copy)]
-pub enum Fault {
-    // No rule of the map is broken.
-    Nothing,
-    // What is wrong, and at which record, counted from 0; a wrong count is no record's, and has 0.
-    At(Cause, usize),
+pub struct Fault {
+    pub cause: Cause,
+    pub record: usize,
 }
 
-// Where addresses lie.
+// What a fault of the map is answered with.
+impl From<Fault> for Refusal {
+    ghost from_gives = { λ fault refusal. refusal ≡ fault_refusal fault };
+
+    #[tactic(auto, using(crate::proofs::First::fault_answer))]
+    fn from(_fault: Fault) -> Refusal {
+        Refusal::Map(Place::Nowhere)
+    }
+}
+
+// A guest address width.
 #[derive(Clone, Copy)]
-pub enum Lies {
-    // Wholly inside one record of an allowed kind: the first such record's number.
-    In(usize),
-    Outside,
+pub enum Width {
+    Bits48,
+    Bits52,
+}
+
+// The width with so many bits, or the refusal of a number that is none's.
+impl TryFrom<u32> for Width {
+    type Error = Refusal;
+
+    ghost try_from_gives = { Widens };
+
+    #[tactic(auto, unfolding(crate::specs::Map::bits, crate::specs::Map::width_allowed, verdict::specs::Refusal::refusal_of))]
+    fn try_from(bits: u32) -> Result<Width, Refusal> {
+        match bits {
+            48 => Ok(Width::Bits48),
+            52 => Ok(Width::Bits52),
+            _ => Err(Refusal::Width(Place::Nowhere)),
+        }
+    }
 }
 
 // 2^48, where the addresses of 48 bits end.
@@ -58,203 +84,144 @@ const TOP_48: u64 = 0x1_0000_0000_0000;
 const TOP_52: u64 = 0x10_0000_0000_0000;
 
 // Record `i` of the map. It takes no rule for granted: a map is read record by record while its rules are tried.
+#[tactic(auto, unfolding(crate::specs::Map::record_at))]
 pub fn record_at(map: &[u8], i: usize) -> Record
     requires { 24 * i + 24 ≤ length map.now }
     ensures { result ≡ record_at map.now i }
 {
     let at = 24 * i;
     Record {
-        start: wire::u64_at(map, at),
-        length: wire::u64_at(map, at + 8),
-        kind: wire::u32_at(map, at + 16),
-        filler: wire::u32_at(map, at + 20),
+        start: u64::number_at(map, at),
+        length: u64::number_at(map, at + 8),
+        kind: u32::number_at(map, at + 16),
+        filler: u32::number_at(map, at + 20),
     }
 }
 
 // Whether the number of records is wrong, or the bytes are not whole records.
+#[tactic(auto, unfolding(crate::specs::Map::count_broken))]
 fn count_broken(map: &[u8]) -> bool
     ensures { result ≡ count_broken map.now }
 {
-    if map.len() % 24 != 0 {
-        return true;
-    }
     let count = map.len() / 24;
-    if count == 0 {
-        return true;
-    }
-    if 64 < count {
-        return true;
-    }
-    false
+    map.len() % 24 != 0 || count == 0 || 64 < count
 }
 
 // Whether the start or the length is not in whole pages, or there is no page.
+#[tactic(auto, unfolding(crate::specs::Map::multiple_broken))]
 fn multiple_broken(r: Record) -> bool
     ensures { result ≡ multiple_broken r }
 {
-    if r.start % 4096 != 0 {
-        return true;
-    }
-    if r.length % 4096 != 0 {
-        return true;
-    }
-    if r.length == 0 {
-        return true;
-    }
-    false
+    r.start % 4096 != 0 || r.length % 4096 != 0 || r.length == 0
 }
 
 // The highest end that a record may have. It is asked with the record's kind, so that a bound of a kind is a matter of
 // this function alone.
-fn top_of(kind: u32, width: u32) -> u64
-    requires { width_allowed width ≡ true }
-    ensures { result ≡ top kind width }
+#[tactic(auto, unfolding(crate::specs::Map::top, crate::specs::Map::bits))]
+fn top_of(kind: u32, width: Width) -> u64
+    ensures { result ≡ top kind (bits width) }
 {
-    if width == 48 {
-        return TOP_48;
+    match width {
+        Width::Bits48 => TOP_48,
+        Width::Bits52 => TOP_52,
     }
-    TOP_52
 }
 
 // Whether the record ends too high. No sum of untrusted numbers is formed: the start is tried against what the length
 // leaves below the bound, and that difference is formed where the length is at most the bound.
-fn end_broken(r: Record, width: u32) -> bool
-    requires { width_allowed width ≡ true }
-    ensures { result ≡ end_broken width r }
+#[tactic(auto, unfolding(crate::specs::Map::end_broken))]
+fn end_broken(r: Record, width: Width) -> bool
+    ensures { result ≡ end_broken (bits width) r }
 {
     let top = top_of(r.kind, width);
-    if top < r.length {
-        return true;
-    }
-    if top - r.length < r.start {
-        return true;
-    }
-    false
+    top < r.length || top - r.length < r.start
 }
 
 // Whether the kind is none of the three, or the four bytes behind it are not zero.
+#[tactic(auto, unfolding(crate::specs::Map::kind_broken))]
 fn kind_broken(r: Record) -> bool
     ensures { result ≡ kind_broken r }
 {
-    if r.kind < 1 {
-        return true;
-    }
-    if 3 < r.kind {
-        return true;
-    }
-    if r.filler != 0 {
-        return true;
-    }
-    false
+    r.kind < 1 || 3 < r.kind || r.filler != 0
 }
 
 // Whether the record starts before the end of the one before it, `before`.
+#[tactic(auto, unfolding(crate::specs::Map::order_broken))]
 fn order_broken(r: Record, before: u64) -> bool
     ensures { result ≡ order_broken before r }
 {
-    if r.start < before {
-        return true;
-    }
-    false
+    r.start < before
 }
 
 // The first rule that record `i`, which is `r`, breaks behind a record that ends at `before`.
-fn record_fault(r: Record, before: u64, width: u32, i: usize) -> Fault
-    requires { width_allowed width ≡ true }
-    ensures { result ≡ first_fault (record_tried width before r i) }
+#[tactic(auto, unfolding(crate::specs::Map::record_tried, crate::specs::Map::first_fault))]
+fn record_fault(r: Record, before: u64, width: Width, i: usize) -> Result<(), Fault>
+    ensures { result ≡ first_fault (record_tried (bits width) before r i) }
 {
-    if multiple_broken(r) {
-        return Fault::At(Cause::Multiple, i);
-    }
-    if end_broken(r, width) {
-        return Fault::At(Cause::End, i);
-    }
-    if kind_broken(r) {
-        return Fault::At(Cause::Kind, i);
-    }
-    if order_broken(r, before) {
-        return Fault::At(Cause::Order, i);
-    }
-    Fault::Nothing
+    let cause = if multiple_broken(r) {
+        Cause::Multiple
+    } else if end_broken(r, width) {
+        Cause::End
+    } else if kind_broken(r) {
+        Cause::Kind
+    } else if order_broken(r, before) {
+        Cause::Order
+    } else {
+        return Ok(());
+    };
+    Err(Fault { cause, record: i })
 }
 
 // The map's first fault: the count, then record by record. The end of a record is formed where its rules are kept, among
 // them that this end is at most the bound, so it does not wrap.
-pub fn check(map: &[u8], width: u32) -> Fault
-    requires { width_allowed width ≡ true }
-    ensures { result ≡ first_fault (map_tried width map.now) }
+pub fn check(map: &[u8], width: Width) -> Result<(), Fault>
+    ensures { result ≡ first_fault (map_tried (bits width) map.now) }
 {
     if count_broken(map) {
-        return Fault::At(Cause::Count, 0);
+        return Err(Fault {
+            cause: Cause::Count,
+            record: 0,
+        });
     }
-    let count = map.len() / 24;
     let mut before: u64 = 0;
-    let mut i: usize = 0;
-    while i < count {
+    for i in 0..map.len() / 24 {
         let r = record_at(map, i);
-        let found = record_fault(r, before, width, i);
-        let Fault::Nothing = found else {
-            return found;
-        };
+        record_fault(r, before, width, i)?;
         before = r.start + r.length;
-        i += 1;
     }
-    Fault::Nothing
+    Ok(())
 }
 
 // Whether a record's kind is allowed: RAM, and firmware where `firmware` says so.
+// A `bool`, and no enum: it is what `tdvf::firmware_allowed` answers, and an `if` would have to make the enum of it.
+// No closure: a clause over any closure is no equation with `ram_or`, and asks of callers that the closure can be called.
+#[tactic(auto, unfolding(crate::specs::Map::ram_or))]
 fn allowed(firmware: bool, kind: u32) -> bool
     ensures { result ≡ ram_or firmware kind }
 {
-    if kind == 1 {
-        return true;
-    }
-    if firmware {
-        return kind == 2;
-    }
-    false
+    kind == 1 || firmware && kind == 2
 }
 
-// Whether the `size` addresses from `address` on lie in the record. Their end and the record's may be above 2^64, so no end
-// is formed: behind the start, and no more of them than the record has, they lie in it exactly where they are no further
-// from the start than the addresses that the record has to spare.
+// Whether the `size` addresses from `address` on lie in the record. The two are no struct: a section has them so, and
+// nothing ties them, since their end and the record's may be above 2^64. So no end is formed: behind the start, and no more of them than the
+// record has, they lie in it exactly where they are no further from the start than the addresses that the record has to spare.
+#[tactic(auto, unfolding(crate::specs::Map::holds))]
 fn within(r: Record, address: u64, size: u64) -> bool
     ensures { result ≡ holds r address size }
 {
-    if address < r.start {
-        return false;
-    }
-    if r.length < size {
-        return false;
-    }
-    if r.length - size < address - r.start {
-        return false;
-    }
-    true
+    r.start <= address && size <= r.length && address - r.start <= r.length - size
 }
 
 // Whether the record is of an allowed kind and the addresses lie in it.
 fn serves(r: Record, firmware: bool, address: u64, size: u64) -> bool
     ensures { result ≡ (ram_or firmware r.kind && holds r address size) }
 {
-    if !allowed(firmware, r.kind) {
-        return false;
-    }
-    within(r, address, size)
+    allowed(firmware, r.kind) && within(r, address, size)
 }
 
 // The first record of an allowed kind that holds the `size` addresses from `address` on.
-pub fn lies_in(map: &[u8], firmware: bool, address: u64, size: u64) -> Lies
+pub fn lies_in(map: &[u8], firmware: bool, address: u64, size: u64) -> Option<usize>
     ensures { result ≡ lies (ram_or firmware) (records map.now) 0 address size }
 {
-    let count = map.len() / 24;
-    let mut i = 0;
-    while i < count {
-        let r = record_at(map, i);
-        if serves(r, firmware, address, size) {
-            return Lies::In(i);
-        }
-        i += 1;
-    }
-    Lies::Outside
+    (0..map.len() / 24).find(|i| serves(record_at(map, *i), firmware, address, size))
 }

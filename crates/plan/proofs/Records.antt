@@ -2,7 +2,7 @@
 -- Assumes nothing.
 use mathlib.Core.Path.{◌≡◌, refl, sym, ap, ◌∙◌}
 use mathlib.Core.List.{List, [], ◌∷◌, ◌++◌, append_assoc, append-nil}
-use Prim.Native.Nat.{ℕ, ◌+◌, ◌-◌, ◌*◌, ◌≤◌, ◌<◌}
+use Prim.Native.Nat.{ℕ, ◌+◌, ◌*◌}
 use native.Mathlib.Omega.{arith}
 use lib.ListN.{length, length-append}
 use lib.Seq.{sets}
@@ -10,10 +10,9 @@ use Rattle.wire.specs.Number.{le}
 use Rattle.wire.proofs.Digits.{length-le}
 use Rattle.wire.proofs.Sets.{sets_then}
 use Rattle.verdict.specs.Turns.{in_turn, up_to}
-use Rattle.verdict.proofs.Turns.{length-up_to, up_to-more, turn-split}
+use Rattle.verdict.proofs.Turns.{length-up_to, up_to-more}
 use Rattle.tdvf.specs.declared.Section.{Section}
 use Rattle.tdvf.specs.Section.{page_count, pages_in_all}
-use Rattle.tdvf.proofs.Sums as sums
 use Rattle.plan.specs.declared.Page.{Page}
 use Rattle.plan.specs.Plan.{page_of, pages_of, pages, page_bytes, plan_bytes}
 
@@ -66,22 +65,9 @@ behind : (b b' xs ys : List ℕ) (i j : ℕ) → i + length xs ≡ j → b' ≡ 
 behind b b' xs ys i j l e = ap (λ (r : List ℕ). sets r j ys) e ∙ sets_then b xs ys i j l
 
 -- the five fields of a record, one after the other
-pub page-is : (p : Page) (b b₁ b₂ b₃ b₄ b₅ : List ℕ) (at : ℕ)
-    → b₁ ≡ sets b at (le 8 p.address)
-    → b₂ ≡ sets b₁ (at + 8) (le 4 p.offset)
-    → b₃ ≡ sets b₂ (at + 12) (le 2 p.length)
-    → b₄ ≡ sets b₃ (at + 14) (le 1 p.sort)
-    → b₅ ≡ sets b₄ (at + 15) (le 1 p.measured)
-    → b₅ ≡ sets b at (page_bytes p)
+pub page-is : (p : Page) → (((le 8 p.address ++ le 4 p.offset) ++ le 2 p.length) ++ le 1 p.sort) ++ le 1 p.measured ≡ page_bytes p
 unfolding page_bytes
-page-is p b b₁ b₂ b₃ b₄ b₅ at e₁ e₂ e₃ e₄ e₅ =
-    let last : List ℕ = le 1 p.sort ++ le 1 p.measured in
-    let more : List ℕ = le 2 p.length ++ last in
-    e₅
-    ∙ behind b₃ b₄ (le 1 p.sort) (le 1 p.measured) (at + 14) (at + 15) (omega (arith, length-le 1 p.sort)) e₄
-    ∙ behind b₂ b₃ (le 2 p.length) last (at + 12) (at + 14) (omega (arith, length-le 2 p.length)) e₃
-    ∙ behind b₁ b₂ (le 4 p.offset) more (at + 8) (at + 12) (omega (arith, length-le 4 p.offset)) e₂
-    ∙ behind b b₁ (le 8 p.address) (le 4 p.offset ++ more) at (at + 8) (omega (arith, length-le 8 p.address)) e₁
+page-is p = simp append_assoc
 
 -- the records of more pages, behind those of some
 pub plan-is : (b b₁ b₂ : List ℕ) (at next : ℕ) (ps qs : List Page)
@@ -108,29 +94,22 @@ page-turn b b₁ b₂ at next k f p e₁ n e e₂ =
 
 -- ---- a turn of the loop over the sections
 
-pub section-none : (b : List ℕ) (handoff : ℕ) (f : ℕ → Section) → b ≡ sets b 0 (plan_bytes (pages handoff (up_to f 0)))
-unfolding plan_bytes pages in_turn
-section-none b handoff f = refl
+pub section-none : (b : List ℕ) (handoff : ℕ) → b ≡ sets b 0 (plan_bytes (pages handoff []))
+unfolding plan_bytes pages
+section-none b handoff = refl
 
-pub section-turn : (b b₁ b₂ : List ℕ) (handoff next k : ℕ) (f : ℕ → Section) (s : Section)
-    → b₁ ≡ sets b 0 (plan_bytes (pages handoff (up_to f k))) → next ≡ 16 * pages_in_all (up_to f k) → s ≡ f k
+pub section-turn : (b b₁ b₂ : List ℕ) (handoff next : ℕ) (ss : List Section) (s : Section)
+    → b₁ ≡ sets b 0 (plan_bytes (pages handoff ss)) → next ≡ 16 * pages_in_all ss
     → b₂ ≡ sets b₁ next (plan_bytes (pages_of handoff s))
-    → b₂ ≡ sets b 0 (plan_bytes (pages handoff (up_to f (k + 1))))
-section-turn b b₁ b₂ handoff next k f s e₁ n e e₂ =
-    plan-is b b₁ b₂ 0 next (pages handoff (up_to f k)) (pages_of handoff (f k)) e₁ (omega (arith, n, length-pages handoff (up_to f k)))
-    (e₂ ∙ ap (λ (t : Section). sets b₁ next (plan_bytes (pages_of handoff t))) e)
-    ∙ ap (λ (ps : List Page). sets b 0 (plan_bytes ps)) (sym (pages-more handoff (up_to f k) (f k)))
-    ∙ ap (λ (ss : List Section). sets b 0 (plan_bytes (pages handoff ss))) (sym (up_to-more f k))
+    → b₂ ≡ sets b 0 (plan_bytes (pages handoff (ss ++ (s ∷ []))))
+section-turn b b₁ b₂ handoff next ss s e₁ n e₂ =
+    plan-is b b₁ b₂ 0 next (pages handoff ss) (pages_of handoff s) e₁ (omega (arith, n, length-pages handoff ss)) e₂
+    ∙ ap (λ (ps : List Page). sets b 0 (plan_bytes ps)) (sym (pages-more handoff ss s))
 
-pub count_none : (f : ℕ → Section) → pages_in_all (up_to f 0) ≡ 0
-unfolding pages_in_all in_turn
-count_none f = refl
+pub count_none : pages_in_all [] ≡ 0
+unfolding pages_in_all
+count_none = refl
 
-pub count_turn : (f : ℕ → Section) (k : ℕ) → pages_in_all (up_to f (k + 1)) ≡ pages_in_all (up_to f k) + page_count (f k)
-count_turn f k = ap pages_in_all (up_to-more f k) ∙ sums.pages-more (up_to f k) (f k)
-
--- a section's pages are among those of all
-pub count_most : (f : ℕ → Section) (k n : ℕ) → k < n → pages_in_all (up_to f k) + page_count (f k) ≤ pages_in_all (up_to f n)
-count_most f k n h =
-    let rest : List Section = up_to (λ i. f (k + 1 + i)) (n - (k + 1)) in
-    omega (arith, ap pages_in_all (turn-split (λ i. f i ∷ []) k n h), sums.pages-append (up_to f k ++ (f k ∷ [])) rest, sums.pages-more (up_to f k) (f k))
+pub count_next : (s : Section) (ss : List Section) → pages_in_all (s ∷ ss) ≡ page_count s + pages_in_all ss
+unfolding pages_in_all
+count_next s ss = refl

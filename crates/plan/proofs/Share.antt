@@ -28,16 +28,6 @@ module _ (handoff : ℕ) (s : Section) where
   unfolding source_of
   source-list e = rw e
 
-  at_none : (n : ℕ) → s.sort ≡ n → 3 ≤ n → source_of handoff s ≡ record { start = 0; amount = 0 }
-  unfolding source_of
-  at_none zero e h = absurd (omega arith)
-  at_none (suc zero) e h = absurd (omega arith)
-  at_none (suc (suc zero)) e h = absurd (omega arith)
-  at_none (suc (suc (suc t))) e h = rw e
-
-  pub source-none : 3 ≤ s.sort → source_of handoff s ≡ record { start = 0; amount = 0 }
-  source-none h = at_none s.sort refl h
-
   at-end : (n most : ℕ) → s.sort ≡ n → s.offset + s.raw ≤ most → handoff ≤ most → (source_of handoff s).start + (source_of handoff s).amount ≤ most
   unfolding source_of
   at-end zero most e own list = rw e own

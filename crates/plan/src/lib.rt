@@ -4,15 +4,13 @@
 
 #![tactic(auto)]
 
-ghost use Rattle.std.specs.Prelude.{◌≡◌, ℕ, ◌+◌, ◌*◌, ◌^◌, ◌≤◌, ◌<◌, length};
+ghost use Rattle.std.specs.Prelude.{◌≡◌, ◌+◌, ◌*◌, ◌^◌, ◌≤◌, ◌<◌, All, length};
 ghost use Rattle.std.proofs.lemmas.List.Edits.{sets};
-ghost use Rattle.verdict.specs.Turns.{up_to};
-ghost use Rattle.tdvf.specs.Image.{section_at};
 ghost use Rattle.tdvf.specs.Section.{page_count, pages_in_all};
 ghost use Rattle.plan.specs.Plan.{Fits, source_of, data_length, data_offset, page_of, pages_of, pages, page_bytes, plan_bytes};
 ghost use Rattle.plan.specs.View.{part, view};
 
-use tdvf::Section;
+use tdvf::{Section, Table};
 
 // A planned page.
 #[derive(Clone, Copy)]
@@ -22,9 +20,9 @@ pub struct Page {
     pub offset: u32,
     // How much data it has; zeros follow up to 4,096 bytes.
     pub length: u16,
-    // The type of its section.
+    // The type of its section, and 1 where the page is measured, else 0. They are the record's own bytes: a lent plan can have any, and
+    // `page_at` of `specs/Plan.antt` reads them as they are.
     pub sort: u8,
-    // 1 where the page is measured, else 0.
     pub measured: u8,
 }
 
@@ -41,6 +39,7 @@ pub struct Source {
 
 // A section's type decides the source: the volumes' data is in the image, the TD HOB section's is the HOB list, of
 // `handoff` bytes, and temporary memory has none.
+#[tactic(auto, unfolding(crate::specs::Plan::source_of))]
 fn source_of(s: Section, handoff: u64) -> Source
     ensures { result ≡ source_of handoff s }
 {
@@ -64,6 +63,7 @@ fn source_of(s: Section, handoff: u64) -> Source
 }
 
 // How much data page `k` has: what is left behind the pages before it, and a page's bytes at most.
+#[tactic(auto, unfolding(crate::specs::Plan::data_length))]
 fn data_length(source: Source, k: u64) -> u64
     requires { 4096 * k < 2 ^ 64 }
     ensures { result ≡ data_length source k }
@@ -80,6 +80,7 @@ fn data_length(source: Source, k: u64) -> u64
 }
 
 // Where the data of page `k` starts; 0 where it has none. A page that has some starts before the source's end, so the sum fits.
+#[tactic(auto, unfolding(crate::specs::Plan::data_offset, crate::specs::Plan::data_length))]
 fn data_offset(source: Source, k: u64) -> u64
     requires { (4096 * k < 2 ^ 64) × (source.start + source.amount < 2 ^ 64) }
     ensures { result ≡ data_offset source k }
@@ -90,7 +91,9 @@ fn data_offset(source: Source, k: u64) -> u64
     source.start + 4096 * k
 }
 
-// Page `k` of a section, where the HOB list is `handoff` bytes long.
+// Page `k` of a section, where the HOB list is `handoff` bytes long. That it is 2^32 at most stays a clause, here and where pages are written: a
+// `u32` would ask for less than that.
+#[tactic(auto, unfolding(crate::specs::Plan::page_of))]
 pub fn page_of(s: Section, handoff: u64, k: u64) -> Page
     requires { (s.address + 4096 * k < 2 ^ 64) × (s.offset + s.raw ≤ 2 ^ 32) × (handoff ≤ 2 ^ 32) × (s.sort < 256) }
     ensures { result ≡ page_of handoff s k }
@@ -107,51 +110,47 @@ pub fn page_of(s: Section, handoff: u64, k: u64) -> Page
 
 // ---- the records
 
-// Writes a page's record at `at`.
-pub fn put_page(buffer: &mut [u8], at: usize, p: Page)
-    requires { at + 16 ≤ length buffer.old }
-    ensures { buffer.new ≡ sets buffer.old at (page_bytes p) }
+// Writes a page's record over the 16 bytes of one.
+pub fn put_page(part: &mut [u8], p: Page)
+    requires { length part.old ≡ 16 }
+    ensures { part.new ≡ page_bytes p }
 {
-    wire::put(buffer, at, 8, p.address);
-    wire::put(buffer, at + 8, 4, p.offset as u64);
-    wire::put(buffer, at + 12, 2, p.length as u64);
-    wire::put(buffer, at + 14, 1, p.sort as u64);
-    wire::put(buffer, at + 15, 1, p.measured as u64);
+    wire::put(&mut part[0..8], p.address);
+    wire::put(&mut part[8..12], p.offset as u64);
+    wire::put(&mut part[12..14], p.length as u64);
+    wire::put(&mut part[14..15], p.sort as u64);
+    wire::put(&mut part[15..16], p.measured as u64);
 }
 
-// Writes the records of a section's pages from `at` on, and answers where the next record goes.
-pub fn put_pages(buffer: &mut [u8], at: usize, s: Section, handoff: u64) -> usize
-    requires { (at + 16 * page_count s ≤ length buffer.old) × Fits s × (handoff ≤ 2 ^ 32) }
-    ensures { (buffer.new ≡ sets buffer.old at (plan_bytes (pages_of handoff s))) × (result ≡ at + 16 * page_count s) }
+// Writes the records of a section's pages at the start of a part, and answers how long they are.
+pub fn put_pages(part: &mut [u8], s: Section, handoff: u64) -> usize
+    requires room { 16 * page_count s ≤ length part.old }
+    requires list_fits { handoff ≤ 2 ^ 32 }
+    requires section_fits { Fits s }
+    ensures written { part.new ≡ sets part.old 0 (plan_bytes (pages_of handoff s)) }
+    ensures size { result ≡ 16 * page_count s }
 {
-    let count = s.size / 4096;
-    let mut next = at;
-    let mut k = 0;
-    while k < count {
-        let p = page_of(s, handoff, k);
-        put_page(buffer, next, p);
+    let mut next = 0;
+    for k in 0..s.size / 4096 {
+        put_page(&mut part[next..next + 16], page_of(s, handoff, k));
         next += 16;
-        k += 1;
     }
     next
 }
 
-// Writes the records of the first `count` sections of a descriptor from the buffer's start on, and answers where they end.
-// The launch's rules made sure that each section fits the fields, and that the buffer has room for all pages.
-pub fn write_plan(buffer: &mut [u8], descriptor: &[u8], count: usize, handoff: u64) -> usize
-    requires { (16 + 32 * count ≤ length descriptor.now)
-        × (16 * pages_in_all (up_to (section_at descriptor.now) count) ≤ length buffer.old)
-        × (handoff ≤ 2 ^ 32)
-        × ((k : ℕ) → k < count → Fits (section_at descriptor.now k)) }
-    ensures { (buffer.new ≡ sets buffer.old 0 (plan_bytes (pages handoff (up_to (section_at descriptor.now) count))))
-        × (result ≡ 16 * pages_in_all (up_to (section_at descriptor.now) count)) }
+// Writes the records of a table's sections from the buffer's start on, and answers where they end. The launch's rules made sure
+// that each section fits the fields, and that the buffer has room for all pages.
+#[tactic(auto, using(crate::proofs::Records::count_next))]
+pub fn write_plan(buffer: &mut [u8], table: &Table, handoff: u64) -> usize
+    requires room { 16 * pages_in_all table.now ≤ length buffer.old }
+    requires list_fits { handoff ≤ 2 ^ 32 }
+    requires sections_fit { All Fits table.now }
+    ensures written { buffer.new ≡ sets buffer.old 0 (plan_bytes (pages handoff table.now)) }
+    ensures next_place { result ≡ 16 * pages_in_all table.now }
 {
     let mut next = 0;
-    let mut k = 0;
-    while k < count {
-        let s = tdvf::section_at(descriptor, k);
-        next = put_pages(buffer, next, s, handoff);
-        k += 1;
+    for s in table.iter() {
+        next += put_pages(&mut buffer[next..], s, handoff);
     }
     next
 }
@@ -160,6 +159,7 @@ pub fn write_plan(buffer: &mut [u8], descriptor: &[u8], count: usize, handoff: u
 
 // The part of a slice that starts at `start` and has `size` bytes: an empty one where it is not inside the slice, or is longer
 // than a page. Both numbers are widened first, so their sum doesn't wrap.
+#[tactic(auto, unfolding(crate::specs::View::part))]
 fn part_of<'a>(slice: &'a [u8], start: u32, size: u16) -> &'a [u8]
     ensures { result.now ≡ part slice.now start size }
 {
@@ -177,6 +177,7 @@ fn part_of<'a>(slice: &'a [u8], start: u32, size: u16) -> &'a [u8]
 // The page view: the bytes behind a record's offset, length and type, of the image for types 0 and 1, of the HOB list for
 // type 2, and none for another type. One lifetime stands for both slices and the answer: two that outlive a third are not
 // covered by the prover.
+#[tactic(auto, unfolding(crate::specs::View::view, crate::specs::View::slice_of))]
 pub fn view<'a>(image: &'a [u8], handoff: &'a [u8], offset: u32, length: u16, sort: u8) -> &'a [u8]
     ensures { result.now ≡ view image.now handoff.now offset length sort }
 {

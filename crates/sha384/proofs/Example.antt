@@ -4,7 +4,7 @@ use Rattle.std.proofs.Common.{◌≡◌, ℕ, List, [], ◌∷◌, refl}
 use Rattle.sha384.specs.Words.{word_at, bytes}
 use Rattle.sha384.specs.Constants.{K, H⁰}
 use Rattle.sha384.specs.Padding.{zeros, padding, padded, block}
-use Rattle.sha384.specs.Hash.{later_word, next_word, schedule, T₁, T₂, round, rounds, added, compressed, after, left384, sha384}
+use Rattle.sha384.specs.Hash.{later_word, next_word, schedule, round, rounds, added, compressed, after, left384, sha384}
 
 pub abc : List ℕ
 abc = 0x61 ∷ 0x62 ∷ 0x63 ∷ []
@@ -17,5 +17,5 @@ digest =
     0xa1 ∷ 0xe7 ∷ 0xcc ∷ 0x23 ∷ 0x58 ∷ 0xba ∷ 0xec ∷ 0xa1 ∷ 0x34 ∷ 0xc8 ∷ 0x25 ∷ 0xa7 ∷ []
 
 pub abc-is : sha384 abc ≡ digest
-unfolding abc digest word_at bytes K H⁰ zeros padding padded block later_word next_word schedule T₁ T₂ round rounds added compressed after left384 sha384
+unfolding abc digest word_at bytes K H⁰ zeros padding padded block later_word next_word schedule round rounds added compressed after left384 sha384
 abc-is = refl

@@ -44,23 +44,15 @@ schedule-more M w t v h e p = rw (add-one t, take-suc-set w t v h, e, p)
 
 -- ---- the rounds
 
-pub rounds-none : (s : State) (W : List ℕ) → s ≡ rounds s W 0
+pub rounds-more : (s v : State) (W : List ℕ) (t : ℕ) → v ≡ rounds s W t → round v (get_or K t 0) (get_or W t 0) ≡ rounds s W (t + 1)
 unfolding rounds
-rounds-none s W = refl
-
-pub rounds-more : (s v : State) (W k : List ℕ) (t : ℕ) → k ≡ K → v ≡ rounds s W t → round v (get_or k t 0) (get_or W t 0) ≡ rounds s W (t + 1)
-unfolding rounds
-rounds-more s v W k t e h = rw (add-one t, e, h)
+rounds-more s v W t h = rw (add-one t, h)
 
 -- ---- the blocks
 
 pub after_none : (s : State) (m : List ℕ) → s ≡ after s m 0
 unfolding after
 after_none s m = refl
-
-pub after_more : (s : State) (m : List ℕ) (n : ℕ) → compressed (after s m n) (block m n) ≡ after s m (n + 1)
-unfolding after
-after_more s m n = rw (add-one n)
 
 -- the blocks of the first part of a message
 pub block-left : (xs ys : List ℕ) (i : ℕ) → 128 * i + 128 ≤ length xs → block (xs ++ ys) i ≡ block xs i
@@ -150,22 +142,8 @@ finished-whole s q =
     let long : length b ≡ 128 = padding-whole q in
     ap (λ (k : ℕ). left384 (after s b (k / 128))) long ∙ ap (λ (r : List ℕ). left384 (compressed s r)) (take_all 128 b (omega arith))
 
--- ---- a message by parts: after `at` bytes, which are whole blocks, the next block and the end
-module _ (m : List ℕ) (at : ℕ) (s : State) (whole : at % 128 ≡ 0) (e : s ≡ after H⁰ m (at / 128)) where
-  pub part-more : compressed s (take (at + 128 - at) (drop at m)) ≡ after H⁰ m ((at + 128) / 128)
-  unfolding block
-  part-more =
-      let size : at + 128 - at ≡ 128 = omega arith in
-      let place : at ≡ 128 * (at / 128) = omega arith in
-      let next : at / 128 + 1 ≡ (at + 128) / 128 = omega arith in
-      ap₂ (λ (r : State) (b : List ℕ). compressed r b) e (ap₂ (λ (k i : ℕ). take k (drop i m)) size place)
-      ∙ after_more H⁰ m (at / 128)
-      ∙ ap (λ (k : ℕ). after H⁰ m k) next
-
-  pub part_end : at ≤ length m → length m - at < 128 → finished s (take (length m - at) (drop at m)) (length m) ≡ sha384 m
-  part_end h l =
-      let q : at / 128 ≡ length m / 128 = omega arith in
-      let place : at ≡ 128 * (at / 128) = omega arith in
-      ap₂ (λ (r : State) (b : List ℕ). finished r b (length m)) e
-      (take_all (length m - at) (drop at m) (omega (arith, length-drop at m)) ∙ ap (λ (i : ℕ). drop i m) place)
-      ∙ sym (pieces m (at / 128) q)
+-- a message whose whole blocks are done, and whose rest is lent as a part of it
+pub digested : (m : List ℕ) (s : State) (q : ℕ) → q ≡ length m / 128 → s ≡ after H⁰ m q
+    → finished s (take (length m - 128 * (length m / 128)) (drop (128 * (length m / 128)) m)) (length m) ≡ sha384 m
+digested m s q whole e =
+    rw (e, ← whole, take_all (length m - 128 * q) (drop (128 * q) m) (omega (arith, length-drop (128 * q) m))) (sym (pieces m q whole))

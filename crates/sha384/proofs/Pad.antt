@@ -1,14 +1,16 @@
 -- The padding of FIPS 180-4, section 5.1.2: how long it is, that it is the least, and its length field in two words; and
 -- what the code writes of it, and of the digest, into an array of zeros.
 -- Assumes nothing.
-use Rattle.std.proofs.Common.{◌≡◌, ℕ, zero, suc, ◌+◌, ◌-◌, ◌*◌, ◌/◌, ◌%◌, ◌^◌, ◌<◌, ◌≤◌, List, [], ◌∷◌, ◌++◌, reverse, length, set, replicate, sym, refl, ap, ◌∙◌, ap₂, append_assoc, append-nil, add-zero, add-suc, div-one, sub-one, arith, length-append}
+use Rattle.std.proofs.Common.{◌≡◌, ℕ, zero, suc, ◌+◌, ◌-◌, ◌*◌, ◌/◌, ◌%◌, ◌^◌, ◌≤◌, List, [], ◌∷◌, ◌++◌, reverse, length, set, replicate, sym, refl, ap, ◌∙◌, ap₂, append_assoc, append-nil, add-zero, add-suc, div-one, arith, length-append, take, drop, drop-drop}
 use native.Mathlib.Nat.{div-div-eq-div-mul, pow-succ'}
 use mathlib.Core.List.{reverse_aux-eq}
 use lib.ListN.{length-replicate, length-reverse}
-use lib.Seq.{sets}
+use lib.Seq.{sets, sets-eq}
+use borrow.Rule.Slice.PartMut.{put_mid}
+use Rattle.std.specs.Int.{to_be_bytes, w64}
 use Rattle.wire.specs.Number.{le}
 use Rattle.wire.proofs.Digits.{length-le, le-mod}
-use Rattle.wire.proofs.Sets.{sets_then, sets-swap, sets-gap, sets-replicate}
+use Rattle.wire.proofs.Sets.{sets_then, sets-gap, sets-replicate}
 use Rattle.sha384.specs.declared.State.{State}
 use Rattle.sha384.specs.Words.{bytes}
 use Rattle.sha384.specs.Padding.{zeros, padding}
@@ -58,16 +60,17 @@ bytes-split m (suc k) v =
     ∙ ap (λ (w : ℕ). bytes m w ++ (bytes k (v / 256) ++ (v % 256 ∷ [])))
     (div-div-eq-div-mul v 256 (256 ^ k) ∙ ap (λ (p : ℕ). v / p) (sym (pow-succ' 256 k)))
 
--- writing the last byte first, and then the others
-pub bytes-last : (b : List ℕ) (at n v : ℕ) → 0 < n → sets (set b (at + (n - 1)) (v % 256)) at (bytes (n - 1) (v / 256)) ≡ sets b at (bytes n v)
+-- those of a word are std's
+pub word-bytes : (v : ℕ) → to_be_bytes w64 v ≡ bytes 8 v
 unfolding bytes
-bytes-last b at zero v h = absurd (omega arith)
-bytes-last b at (suc n) v h =
-    let high : List ℕ = bytes n (v / 256) in
-    let low : List ℕ = v % 256 ∷ [] in
-    ap (λ (k : ℕ). sets (set b (at + k) (v % 256)) at (bytes k (v / 256))) (sub-one (suc n))
-    ∙ sym (sets-swap b high low at (at + n) (omega (arith, length-bytes n (v / 256))))
-    ∙ sets_then b high low at (at + n) (ap (λ (k : ℕ). at + k) (length-bytes n (v / 256)))
+word-bytes v = simp div-div-eq-div-mul
+
+-- writing them over a part of the buffer
+pub word_written : (b ys : List ℕ) (at v n : ℕ) → at + 8 ≤ length b → n ≡ at + 8 - at → ys ≡ to_be_bytes w64 v → put_mid at n b ys ≡ sets b at (bytes 8 v)
+word_written b ys at v n h l e =
+    let same : ys ≡ bytes 8 v = e ∙ word-bytes v in
+    let whole : n ≡ length (bytes 8 v) = omega (arith, length-bytes 8 v) in
+    rw (same, whole, drop-drop) (sym (sets-eq (bytes 8 v) b at (omega (arith, length-bytes 8 v)) ∙ append_assoc (take at b) (bytes 8 v) (drop (at + length (bytes 8 v)) b)))
 
 -- the length field, 8 * n in 128 bits, in two words neither of which needs the product whole
 pub length-field : (n : ℕ) → bytes 16 (8 * n) ≡ bytes 8 (n / 2 ^ 61) ++ bytes 8 (n % 2 ^ 61 * 8)

@@ -1,5 +1,6 @@
-// FIPS 180-4, section 4.2.3.
-pub const K: [u64; 80] = [
+// FIPS 180-4, section 4.2.3. A static is read where it stands, and an array constant is built anew on the stack wherever it
+// is named.
+pub static K: [u64; 80] = [
     0x428a2f98d728ae22,
     0x7137449123ef65cd,
     0xb5c0fbcfec4d3b2f,

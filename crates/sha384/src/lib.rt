@@ -13,7 +13,7 @@ mod schedule;
 mod words;
 
 ghost use Rattle.std.specs.Prelude.{◌≡◌, ◌*◌, ◌%◌, length};
-ghost use Rattle.sha384.specs.Constants.{K, H⁰};
+ghost use Rattle.sha384.specs.Constants.{H⁰};
 ghost use Rattle.sha384.specs.Padding.{padding};
 ghost use Rattle.sha384.specs.Hash.{compressed, left384, finished, sha384};
 
@@ -33,14 +33,6 @@ pub struct State {
     pub h: u64,
 }
 
-// The constants, which the caller of `block` takes once and lends: an array constant is built anew on the stack
-// wherever it is named.
-pub fn table() -> [u64; 80]
-    ensures { result ≡ K }
-{
-    constants::K
-}
-
 // The initial hash value.
 pub fn start() -> State
     ensures { result ≡ H⁰ }
@@ -58,13 +50,13 @@ pub fn start() -> State
 }
 
 // The hash value after one block more.
-pub fn block(state: State, bytes: &[u8], table: &[u64; 80]) -> State
+#[tactic(auto, unfolding(crate::specs::Hash::compressed))]
+pub fn block(state: State, bytes: &[u8]) -> State
     requires whole_block { length bytes.now ≡ 128 }
-    requires constants { table.now ≡ K }
     ensures { result ≡ compressed state bytes.now }
 {
     let w = schedule::words(bytes);
-    let v = rounds::all(state, &w, table);
+    let v = rounds::all(state, &w);
     rounds::add(state, v)
 }
 
@@ -88,31 +80,28 @@ pub fn leftmost(state: State) -> [u8; 48]
 }
 
 // The digest of a message of `total` bytes, from the hash value after its whole blocks and the bytes that are left.
-pub fn finish(state: State, left: &[u8], total: u64, table: &[u64; 80]) -> [u8; 48]
+pub fn finish(state: State, left: &[u8], total: u64) -> [u8; 48]
     requires left_over { length left.now ≡ total % 128 }
-    requires constants { table.now ≡ K }
     ensures { result ≡ finished state left.now total }
 {
     let last = padding::last(left, total);
     let behind = padding::end(left.len());
-    let next = block(state, &last[0..128], table);
+    let next = block(state, &last[0..128]);
     if behind == ONE_BLOCK {
         return padding::left_384(next);
     }
-    padding::left_384(block(next, &last[128..256], table))
+    padding::left_384(block(next, &last[128..256]))
 }
 
 // SHA-384 of a message of any length.
+#[tactic(auto, unfolding(crate::specs::Hash::after, crate::specs::Padding::block))]
 pub fn digest(message: &[u8]) -> [u8; 48]
     ensures { result ≡ sha384 message.now }
 {
-    let table = table();
+    let blocks = message.len() / 128;
     let mut state = start();
-    let mut at = 0;
-    while 128 <= message.len() - at {
-        let end = at + 128;
-        state = block(state, &message[at..end], &table);
-        at = end;
+    for n in 0..blocks {
+        state = block(state, &message[128 * n..128 * n + 128]);
     }
-    finish(state, &message[at..], message.len() as u64, &table)
+    finish(state, &message[128 * blocks..], message.len() as u64)
 }

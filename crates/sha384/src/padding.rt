@@ -8,18 +8,13 @@ ghost use Rattle.sha384.specs.Hash.{left384};
 use crate::State;
 use wire::copy;
 
-// Writes a word at `at`, the most significant byte first: its bytes from the last to the first.
+// Writes a word at `at`, the most significant byte first. It takes the place, and not the part: the check doesn't find that a part of
+// an array which was written before (`&mut out[16..24]`) ends in it, so that six bounds would have to be shown by hand.
 pub fn put_word(buffer: &mut [u8], at: usize, word: u64)
     requires { at + 8 ≤ length buffer.old }
     ensures { buffer.new ≡ sets buffer.old at (bytes 8 word) }
 {
-    let mut left = 8;
-    let mut rest = word;
-    while 0 < left {
-        left -= 1;
-        buffer[at + left] = (rest % 256) as u8;
-        rest = rest / 256;
-    }
+    buffer[at..at + 8].copy_from_slice(&word.to_be_bytes());
 }
 
 // How long the last block or two are, together, where `left` bytes of the message are left for them.
@@ -37,6 +32,7 @@ pub fn last(left: &[u8], total: u64) -> [u8; 256]
     ensures { result ≡ (left.now ++ padding total) ++ replicate (256 - length (left.now ++ padding total)) 0 }
 {
     let mut last = [0u8; 256];
+    // `copy` and not `copy_from_slice`: its contract has the write as `sets`, as those of the writes behind it do.
     copy(&mut last, 0, left);
     let at = left.len();
     last[at] = 0x80;

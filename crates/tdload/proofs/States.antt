@@ -9,8 +9,9 @@ use borrow.Author.Tests.{eq-eqb, ne_eqb}
 use lib.ListN.{length, drop_of_length-le}
 use lib.Seq.{drop-cons}
 use Rattle.sha384.specs.declared.State as of-hash
-use Rattle.verdict.specs.declared.Refusal.TheVariants.{Nothing}
-use Rattle.verdict.proofs.Rules.{nothing?, nothing-number}
+use Rattle.std.specs.Prelude.{Option, None, Some}
+use Rattle.verdict.specs.declared.Refusal.{Refusal}
+use Rattle.verdict.proofs.Rules.{some-none, nothing-number}
 use Rattle.measure.specs.declared.Progress.{Progress}
 use Rattle.measure.specs.declared.Turned as of-turned
 use Rattle.measure.specs.Turn.{turn_number, turn_place, halted, turned}
@@ -51,16 +52,17 @@ kept p image plan q =
 pub answer-is : (p : Progress) (image plan : List ℕ) (q : ℕ)
     → turn_answer (state_of p) image plan q ≡ turned_with (state_of (turned p image plan q).next) (turned p image plan q)
 unfolding state_of progress_of standing turned_with halted turn_number turn_place
-answer-is p image plan q = step (nothing? p.refusal)
+answer-is p image plan q = step p.refusal refl
   where
-    step : Dec (p.refusal ≡ Nothing) → turn_answer (state_of p) image plan q ≡ turned_with (state_of (turned p image plan q).next) (turned p image plan q)
-    step (yes e) =
+    step : (r : Option Refusal) → p.refusal ≡ r → turn_answer (state_of p) image plan q ≡ turned_with (state_of (turned p image plan q).next) (turned p image plan q)
+    step None e =
         let same : p ≡ progress_of (state_of p) = rw (words-hash p.hash, e) in
         answer-turned (state_of p) image plan q ((nothing-number p.refusal).1 e) p (turned p image plan q) same refl
         ∙ ap (λ (s : State). turned_with s (turned p image plan q)) (kept p image plan q)
-    step (no n) =
-        answer-refused (state_of p) image plan q (λ z. n ((nothing-number p.refusal).0 z))
-        ∙ sym (ap (λ (u : of-turned.Turned). turned_with (state_of u.next) u) (turned-refused p image plan q n))
+    step (Some r) e =
+        answer-refused (state_of p) image plan q (λ z. some-none (sym e ∙ (nothing-number p.refusal).0 z))
+        ∙ rw e refl
+        ∙ sym (ap (λ (u : of-turned.Turned). turned_with (state_of u.next) u) (turned-refused p image plan q r e))
 
 -- ---- any state
 
@@ -88,9 +90,9 @@ state-stays s image plan q l n = step (ℕ_discrete s.refusal 0)
         let p : Progress = progress_of s in
         let t : of-turned.Turned = turned p image plan q in
         let is = answer-turned s image plan q e p t refl refl in
-        let stays : t ≡ halted p t.refusal = refused-turn p image plan q (λ z. n (ap (λ (u : Turned). u.refusal) is ∙ ap turn_number z)) in (
-          ap (λ (u : Turned). u.state) is ∙ ap (λ (u : of-turned.Turned). moved s u.next) stays ∙ unmoved s l,
-          ap (λ (u : Turned). u.blocks) is ∙ ap (λ (u : of-turned.Turned). u.blocks) stays,
+        let stays = refused-turn p image plan q (λ z. n (ap (λ (u : Turned). u.refusal) is ∙ ap turn_number z)) in (
+          ap (λ (u : Turned). u.state) is ∙ ap (λ (u : of-turned.Turned). moved s u.next) stays.1 ∙ unmoved s l,
+          ap (λ (u : Turned). u.blocks) is ∙ ap (λ (u : of-turned.Turned). u.blocks) stays.1,
         )
     step (no m) =
         let is = answer-refused s image plan q m in (ap (λ (u : Turned). u.state) is, ap (λ (u : Turned). u.blocks) is)

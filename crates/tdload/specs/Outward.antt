@@ -1,12 +1,11 @@
 -- The answers of a launch, of the page view and of a turn as C has them: numbers in place of enums. Assumes nothing.
-use Rattle.std.specs.Prelude.{List, [], ◌∷◌, ℕ, zero, suc, eqb, length, get_or, take, drop, replicate}
+use Rattle.std.specs.Prelude.{List, [], ◌∷◌, ℕ, zero, suc, eqb, length, get_or, take, drop, replicate, None}
 use Rattle.verdict.specs.declared.Place.{Place}
 use Rattle.verdict.specs.declared.Place.TheVariants.{Nowhere, Section, Record}
 use Rattle.verdict.specs.Refusal.{number, place}
 use Rattle.verdict.specs.Rules.{pick}
 use Rattle.plan.specs.View.{view}
 use Rattle.sha384.specs.declared.State as of-hash
-use Rattle.verdict.specs.declared.Refusal.TheVariants.{Nothing}
 use Rattle.measure.specs.declared.Progress.{Progress}
 use Rattle.measure.specs.declared.Turned as of-turned
 use Rattle.measure.specs.Turn.{turn_number, turn_place, turned}
@@ -101,7 +100,7 @@ state_of p =
 
 -- and back, where it is not refused
 unfoldable pub progress_of : State → Progress
-progress_of s = record { hash = hash_of s.hash; done = s.done; total = s.total; image = s.image; plan = s.plan; refusal = Nothing }
+progress_of s = record { hash = hash_of s.hash; done = s.done; total = s.total; image = s.image; plan = s.plan; refusal = None }
 
 -- what the start answers
 unfoldable pub outward_begun : of-begun.Begun → Begun

@@ -13,9 +13,10 @@ ghost use Rattle.launch.specs.Begin.{begun};
 ghost use Rattle.tdload.specs.Outward.{place_number, place_index, outward, words_of, hash_of, state_of, progress_of, outward_begun, moved, turned_with, standing, turn_answer, slice_number, viewed};
 
 use measure::{Progress, turn, turn_number, turn_place};
-use verdict::{Place, Refusal, number_of, place_of};
+use verdict::{Place, number_of, place_of};
 
-// `struct tdload_answer` of the header, field by field; its `hob_length` is `handoff` here.
+// `struct tdload_answer` of the header, field by field; its `hob_length` is `handoff` here. C has no enums with values and no `Option`, so
+// here and in the structs below a refusal, a place and a slice are the header's numbers.
 #[repr(C)]
 #[derive(Clone, Copy)]
 pub struct Answer {
@@ -46,7 +47,9 @@ pub extern "C" fn tdload_sha384(message: &[u8], digest: &mut [u8; 48])
     *digest = sha384::digest(message);
 }
 
-// What the place of a refusal is: none, a section, or a record of the map.
+// What the place of a refusal is: none, a section, or a record of the map. The number is the C interface's, and neither type is this
+// crate's, so it is no `From`.
+#[tactic(auto, unfolding(crate::specs::Outward::place_number))]
 fn place_number(place: Place) -> u32
     ensures { result ≡ place_number place }
 {
@@ -58,6 +61,7 @@ fn place_number(place: Place) -> u32
 }
 
 // Which one it is, counted from 0.
+#[tactic(auto, unfolding(crate::specs::Outward::place_index))]
 fn place_index(place: Place) -> u64
     ensures { result ≡ place_index place }
 {
@@ -69,20 +73,22 @@ fn place_index(place: Place) -> u64
 }
 
 // The answer of a launch, in numbers.
-fn outward(a: launch::Answer) -> Answer
-    ensures { result ≡ outward a }
-{
-    let refusal = a.refusal;
-    let place = place_of(refusal);
-    let measurement = a.measurement;
-    Answer {
-        refusal: number_of(refusal),
-        place: place_number(place),
-        index: place_index(place),
-        pages: a.pages,
-        handoff: a.handoff,
-        blocks: a.blocks,
-        measurement,
+impl From<launch::Answer> for Answer {
+    ghost from_gives = { λ a answer. answer ≡ outward a };
+
+    #[tactic(auto, unfolding(crate::specs::Outward::outward))]
+    fn from(a: launch::Answer) -> Answer {
+        let place = place_of(a.refusal);
+        let measurement = a.measurement;
+        Answer {
+            refusal: number_of(a.refusal),
+            place: place_number(place),
+            index: place_index(place),
+            pages: a.pages,
+            handoff: a.handoff,
+            blocks: a.blocks,
+            measurement,
+        }
     }
 }
 
@@ -99,7 +105,7 @@ pub extern "C" fn tdload_launch(
     ensures plan_after { plan.new ≡ plan_after (host_with map.now width (list.length plan.old) (list.length handoff.old)) image.now }
     ensures handoff_after { handoff.new ≡ handoff_after (host_with map.now width (list.length plan.old) (list.length handoff.old)) image.now }
 {
-    outward(launch::launch(image, map, width, plan, handoff))
+    Answer::from(launch::launch(image, map, width, plan, handoff))
 }
 
 // ---- the measurement in turns
@@ -138,7 +144,7 @@ pub struct Turned {
     pub measurement: [u8; 48],
 }
 
-// A hash value's words.
+// A hash value's words, as the header has them. Neither type is this crate's, so this and the way back are no `From`.
 #[tactic(auto, unfolding(crate::specs::Outward::words_of))]
 fn words_of(hash: sha384::State) -> [u64; 8]
     ensures { result ≡ words_of hash }
@@ -166,24 +172,27 @@ fn hash_of(words: [u64; 8]) -> sha384::State
 }
 
 // A state in numbers.
-fn state_of(p: Progress) -> State
-    ensures { result ≡ state_of p }
-{
-    let refusal = p.refusal;
-    let place = place_of(refusal);
-    State {
-        hash: words_of(p.hash),
-        done: p.done,
-        total: p.total,
-        image: p.image,
-        plan: p.plan,
-        refusal: number_of(refusal),
-        place: place_number(place),
-        index: place_index(place),
+impl From<Progress> for State {
+    ghost from_gives = { λ p state. state ≡ state_of p };
+
+    #[tactic(auto, unfolding(crate::specs::Outward::state_of))]
+    fn from(p: Progress) -> State {
+        let place = place_of(p.refusal);
+        State {
+            hash: words_of(p.hash),
+            done: p.done,
+            total: p.total,
+            image: p.image,
+            plan: p.plan,
+            refusal: number_of(p.refusal),
+            place: place_number(place),
+            index: place_index(place),
+        }
     }
 }
 
-// A state that is not refused, from its numbers.
+// A state that is not refused, from its numbers. It is no `From`: of a refused state it would lose the refusal.
+#[tactic(auto, unfolding(crate::specs::Outward::progress_of))]
 fn progress_of(s: State) -> Progress
     ensures { result ≡ progress_of s }
 {
@@ -193,36 +202,33 @@ fn progress_of(s: State) -> Progress
         total: s.total,
         image: s.image,
         plan: s.plan,
-        refusal: Refusal::Nothing,
+        refusal: None,
     }
 }
 
 // A state after a turn, which changes its hash value and its count alone.
+#[tactic(auto, unfolding(crate::specs::Outward::moved))]
 fn moved(s: State, p: Progress) -> State
     ensures { result ≡ moved s p }
 {
+    let hash = words_of(p.hash);
     State {
-        hash: words_of(p.hash),
+        hash,
         done: p.done,
-        total: s.total,
-        image: s.image,
-        plan: s.plan,
-        refusal: s.refusal,
-        place: s.place,
-        index: s.index,
+        ..s
     }
 }
 
 // The answer of a turn, in numbers.
+#[tactic(auto, unfolding(crate::specs::Outward::turned_with))]
 fn turned_with(s: State, t: measure::Turned) -> Turned
     ensures { result ≡ turned_with s t }
 {
-    let refusal = t.refusal;
-    let place = turn_place(refusal);
+    let place = turn_place(t.refusal);
     let measurement = t.measurement;
     Turned {
         state: s,
-        refusal: turn_number(refusal),
+        refusal: turn_number(t.refusal),
         place: place_number(place),
         index: place_index(place),
         blocks: t.blocks,
@@ -260,8 +266,8 @@ pub extern "C" fn tdload_begin(
 {
     let begun = launch::begin(image, map, width, plan, handoff);
     Begun {
-        answer: outward(begun.answer),
-        state: state_of(begun.progress),
+        answer: Answer::from(begun.answer),
+        state: State::from(begun.progress),
     }
 }
 
@@ -279,7 +285,7 @@ pub extern "C" fn tdload_turn(state: State, image: &[u8], plan: &[u8], quota: u6
 
 // ---- the page view
 
-// Which slice a record's bytes are in, by its type.
+// Which slice a record's bytes are in, by its type: the header's number.
 fn slice_number(sort: u8) -> u32
     ensures { result ≡ slice_number sort }
 {

@@ -9,18 +9,19 @@ use borrow.Author.Tests.{ltb-false, lt-ltb, le-ltb, eqb-true, eqb-false, not-fal
 use lib.Dec.{ltb, eqb}
 use lib.ListN.{length, take, drop, length-drop}
 use lib.Seq.{take_all}
+use Rattle.std.specs.Prelude.{Ok, Err}
 use Rattle.wire.specs.Number.{number_at}
 use Rattle.wire.proofs.Number.{number_at-take}
 use Rattle.verdict.specs.declared.Place.TheVariants.{Nowhere}
 use Rattle.verdict.specs.declared.Refusal.{Refusal}
-use Rattle.verdict.specs.declared.Refusal.TheVariants.{Nothing, Offset}
-use Rattle.verdict.specs.Refusal.{number, refusal_of}
+use Rattle.verdict.specs.declared.Refusal.TheVariants.{Offset}
+use Rattle.verdict.specs.Refusal.{refusal_of}
 use Rattle.verdict.specs.Rules.{rule, judge}
 use Rattle.verdict.specs.Turns.{up_to}
 use Rattle.verdict.proofs.Turns.{turn-same}
-use Rattle.verdict.proofs.Rules.{judge-broken, judge-refuses, nothing-number, nothing?}
+use Rattle.verdict.proofs.Rules.{judge-broken, and-found, and-missed}
 use Rattle.tdvf.specs.declared.Section.{Section}
-use Rattle.tdvf.specs.declared.Located.TheVariants.{At, Refused}
+use Rattle.tdvf.specs.declared.Located.{Located}
 use Rattle.tdvf.specs.Image.{Fields, offset_word, section_count, descriptor_at, fields_of, signature, length_field, version, section_at, sections, offset_broken, signature_broken, version_broken, descriptor_broken, descriptor_rules, located}
 use Rattle.tdvf.specs.Part.{part_of}
 use Rattle.tdvf.proofs.Kept.{kept-front}
@@ -160,22 +161,23 @@ offset-broken image d e h = lt-ltb (length image - 32) (offset_word image + 16) 
 
 -- ---- where the descriptor is
 
-pub located-found : (f : Fields) → judge (descriptor_rules f) ≡ Nothing → located f ≡ At f.offset (section_count f.descriptor)
-unfolding located number
+-- a descriptor at d with n sections
+abbrev pub at : ℕ → ℕ → Located
+at d n = record { offset = d; count = n }
+
+pub located-found : (f : Fields) → judge (descriptor_rules f) ≡ Ok tt → located f ≡ Ok (at f.offset (section_count f.descriptor))
+unfolding located
 located-found f e = rw e
 
-pub located-refused : (f : Fields) → (judge (descriptor_rules f) ≡ Nothing → ⊥) → located f ≡ Refused (judge (descriptor_rules f))
+pub located-refused : (f : Fields) (r : Refusal) → judge (descriptor_rules f) ≡ Err r → located f ≡ Err r
 unfolding located
-located-refused f h =
-    let r = judge (descriptor_rules f) in
-    rw (ne_eqb (number r) 0 (λ e. h ((nothing-number r).0 e)))
+located-refused f r e = rw e
 
-pub located-offset : (f : Fields) → offset_broken f ≡ true → located f ≡ Refused (Offset Nowhere)
+pub located-offset : (f : Fields) → offset_broken f ≡ true → located f ≡ Err (Offset Nowhere)
 unfolding descriptor_rules refusal_of
 located-offset f e =
     let rs = rule 6 Nowhere (signature_broken f) ∷ rule 7 Nowhere (version_broken f) ∷ rule 8 Nowhere (descriptor_broken f) ∷ [] in
-    located-refused f (judge-refuses (rule 5 Nowhere (offset_broken f)) rs e)
-    ∙ ap Refused (judge-broken (rule 5 Nowhere (offset_broken f)) rs e)
+    located-refused f (Offset Nowhere) (judge-broken (rule 5 Nowhere (offset_broken f)) rs e)
 
 -- what is known of a descriptor that is found
 pub record Found (f : Fields) (d n : ℕ) : Type 0 where
@@ -185,10 +187,10 @@ pub record Found (f : Fields) (d n : ℕ) : Type 0 where
   pub few : n ≤ 32
   pub length : length_field f.descriptor ≡ 16 + 32 * n
   pub end : f.offset + (16 + 32 * n) ≤ f.length - 32
-  pub kept : judge (descriptor_rules f) ≡ Nothing
+  pub kept : judge (descriptor_rules f) ≡ Ok tt
 
 -- rule 8 is kept
-whole : (f : Fields) → descriptor_broken f ≡ false → judge (descriptor_rules f) ≡ Nothing → Found f f.offset (section_count f.descriptor)
+whole : (f : Fields) → descriptor_broken f ≡ false → judge (descriptor_rules f) ≡ Ok tt → Found f f.offset (section_count f.descriptor)
 unfolding descriptor_broken
 whole f e kept =
     let n = section_count f.descriptor in
@@ -207,7 +209,7 @@ whole f e kept =
       kept = kept;
     }
 
-descriptor-kept : (f : Fields) → judge (descriptor_rules f) ≡ Nothing → descriptor_broken f ≡ false
+descriptor-kept : (f : Fields) → judge (descriptor_rules f) ≡ Ok tt → descriptor_broken f ≡ false
 unfolding descriptor_rules
 descriptor-kept f e =
     let r5 = kept-front _ _ e in
@@ -215,33 +217,13 @@ descriptor-kept f e =
     let r7 = kept-front _ _ r6.rest in
     (kept-front _ _ r7.rest).first
 
-pub located-at : (f : Fields) (d n : ℕ) → located f ≡ At d n → Found f d n
-located-at f d n e = step (nothing? (judge (descriptor_rules f)))
-  where
-    step : Dec (judge (descriptor_rules f) ≡ Nothing) → Found f d n
-    step (yes k) =
-        let here = whole f (descriptor-kept f k) k in
-        let same : At d n ≡ At f.offset (section_count f.descriptor) = sym e ∙ located-found f k in
-        let ds : f.offset ≡ d = cc in
-        let ns : section_count f.descriptor ≡ n = cc in
-        subst (λ (m : ℕ). Found f d m) ns (subst (λ (k : ℕ). Found f k (section_count f.descriptor)) ds here)
-    step (no h) =
-        let r = located-refused f h in
-        absurd (let z : ◌≡◌ {A = ℕ} 0 1 = cc in omega arith)
+pub located-at : (f : Fields) (d n : ℕ) → located f ≡ Ok (at d n) → Found f d n
+unfolding located
+located-at f d n e =
+    let both = and-found (judge (descriptor_rules f)) (at f.offset (section_count f.descriptor)) (at d n) e in
+    subst (λ (l : Located). Found f l.offset l.count) both.1 (whole f (descriptor-kept f both.0) both.0)
 
 -- and of one that is not
-pub record Missed (f : Fields) (r : Refusal) : Type 0 where
-  pub answer : r ≡ judge (descriptor_rules f)
-  pub refused : r ≡ Nothing → ⊥
-
-pub located-missed : (f : Fields) (r : Refusal) → located f ≡ Refused r → Missed f r
-located-missed f r e = step (nothing? (judge (descriptor_rules f)))
-  where
-    step : Dec (judge (descriptor_rules f) ≡ Nothing) → Missed f r
-    step (yes k) =
-        let w = located-found f k in
-        absurd (let z : ◌≡◌ {A = ℕ} 0 1 = cc in omega arith)
-    step (no h) =
-        let same : Refused r ≡ Refused (judge (descriptor_rules f)) = sym e ∙ located-refused f h in
-        let a : r ≡ judge (descriptor_rules f) = cc in
-        record { answer = a; refused = λ n. h (sym a ∙ n) }
+pub located-missed : (f : Fields) (r : Refusal) → located f ≡ Err r → judge (descriptor_rules f) ≡ Err r
+unfolding located
+located-missed f r e = and-missed (judge (descriptor_rules f)) (at f.offset (section_count f.descriptor)) r e

@@ -8,12 +8,13 @@ use lib.ListN.{length, replicate}
 use Rattle.wire.specs.Number.{le, number_at}
 use Rattle.verdict.specs.declared.Place.TheVariants as place
 use Rattle.verdict.specs.declared.Refusal.TheVariants as refusal
-use Rattle.verdict.specs.Refusal.{number, refusal_of}
+use Rattle.std.specs.Prelude.{Ok, Err}
+use Rattle.verdict.specs.Refusal.{refusal_of}
 use Rattle.verdict.specs.Rules.{judge}
 use Rattle.verdict.specs.Turns.{in_turn}
 use Rattle.memory.specs.Map.{ram_or}
 use Rattle.tdvf.specs.declared.Section.{Section}
-use Rattle.tdvf.specs.declared.Located.TheVariants.{At, Refused}
+use Rattle.tdvf.proofs.Descriptor.{at}
 use Rattle.tdvf.specs.Image.{Fields, offset_word, section_count, descriptor_at, fields_of, signature, length_field, version, section_at, sections, length_broken, offset_broken, signature_broken, version_broken, descriptor_broken, descriptor_rules, located}
 use Rattle.tdvf.specs.Section.{attributes_allowed, raw_allowed, kind_allowed, sort_broken, attributes_broken, raw_broken, data_broken, memory_broken, image_rules, shares, shared_broken, how_many, pages_in_all, handoff_section, boot_broken, handoff_broken, pages_broken, totals_of}
 
@@ -108,17 +109,17 @@ unfolding descriptor_broken length_field section_count signature le number_at
 ends = refl
 
 -- "Signature wrong and version wrong: 6"
-pub signature-first : judge (descriptor_rules (fields_at 4096 0 (front (0 ∷ 0 ∷ 0 ∷ 0 ∷ []) 48 2 1))) ≡ refusal.Signature place.Nowhere
+pub signature-first : judge (descriptor_rules (fields_at 4096 0 (front (0 ∷ 0 ∷ 0 ∷ 0 ∷ []) 48 2 1))) ≡ Err (refusal.Signature place.Nowhere)
 unfolding judge refusal_of descriptor_rules offset_broken signature_broken signature le number_at
 signature-first = refl
 
 -- a descriptor that is found, and one that ends a byte too late
-pub found : located (fields_at 88 8 (front signature 48 1 1)) ≡ At 8 1
-unfolding located judge number descriptor_rules offset_broken signature_broken version_broken version descriptor_broken length_field section_count signature le number_at
+pub found : located (fields_at 88 8 (front signature 48 1 1)) ≡ Ok (at 8 1)
+unfolding located judge descriptor_rules offset_broken signature_broken version_broken version descriptor_broken length_field section_count signature le number_at
 found = refl
 
-pub missed : located (fields_at 87 8 (front signature 48 1 1)) ≡ Refused (refusal.Descriptor place.Nowhere)
-unfolding located judge number refusal_of descriptor_rules offset_broken signature_broken version_broken version descriptor_broken length_field section_count signature le number_at
+pub missed : located (fields_at 87 8 (front signature 48 1 1)) ≡ Err (refusal.Descriptor place.Nowhere)
+unfolding located judge refusal_of descriptor_rules offset_broken signature_broken version_broken version descriptor_broken length_field section_count signature le number_at
 missed = refl
 
 -- a section is read where it is: each field has a number of its own
@@ -202,7 +203,7 @@ raw-sizes = refl
 -- the order of rules 9 to 13: each breaks all rules from its own on, at section 2
 pub in_order : map (λ s. judge (image_rules 4096 s 2))
     (section 1 0 1 1 4 2 ∷ section 1 0 1 1 2 2 ∷ section 8192 1 1 1 2 0 ∷ section 8192 1 1 1 0 1 ∷ section 0 1 1 1 0 1 ∷ section 0 1 0 4096 0 1 ∷ [])
-    ≡ refusal.Type (place.Section 2) ∷ refusal.Attributes (place.Section 2) ∷ refusal.Raw (place.Section 2) ∷ refusal.Data (place.Section 2) ∷ refusal.Memory (place.Section 2) ∷ refusal.Nothing ∷ []
+    ≡ Err (refusal.Type (place.Section 2)) ∷ Err (refusal.Attributes (place.Section 2)) ∷ Err (refusal.Raw (place.Section 2)) ∷ Err (refusal.Data (place.Section 2)) ∷ Err (refusal.Memory (place.Section 2)) ∷ Ok tt ∷ []
 unfolding judge refusal_of image_rules sort_broken attributes_broken attributes_allowed raw_broken raw_allowed data_broken memory_broken
 in_order = refl
 

@@ -7,7 +7,7 @@ use Prim.Native.Nat.{ℕ, ◌+◌, ◌%◌, ◌≤◌}
 use native.Mathlib.Omega.{arith}
 use borrow.Author.Tests.{ltb-false, leb-true, eqb-true, eqb-false, not-false}
 use lib.Dec.{ltb, eqb}
-use Rattle.verdict.specs.declared.Refusal.TheVariants.{Nothing}
+use Rattle.std.specs.Prelude.{Ok}
 use Rattle.verdict.specs.Rules.{Rule, judge}
 use Rattle.verdict.proofs.Rules.{either, judge-kept, judge-refuses}
 use Rattle.tdvf.specs.declared.Section.{Section}
@@ -17,9 +17,9 @@ use Rattle.tdvf.proofs.Tried.{Neither, or-neither, Both, and_both, raw-data, raw
 -- the first rule of a row that is kept, and the others
 pub record Front (r : Rule) (rs : List Rule) : Type 0 where
   pub first : r.broken ≡ false
-  pub rest : judge rs ≡ Nothing
+  pub rest : judge rs ≡ Ok tt
 
-pub kept-front : (r : Rule) (rs : List Rule) → judge (r ∷ rs) ≡ Nothing → Front r rs
+pub kept-front : (r : Rule) (rs : List Rule) → judge (r ∷ rs) ≡ Ok tt → Front r rs
 kept-front r rs e = step (either r.broken)
   where
     step : (r.broken ≡ true) ⊎ (r.broken ≡ false) → Front r rs
@@ -98,7 +98,7 @@ pub record ImageKept (L : ℕ) (s : Section) : Type 0 where
   pub inside : s.offset + s.raw ≤ L
   pub memory : Memory s
 
-pub image-kept : (L : ℕ) (s : Section) (k : ℕ) → judge (image_rules L s k) ≡ Nothing → ImageKept L s
+pub image-kept : (L : ℕ) (s : Section) (k : ℕ) → judge (image_rules L s k) ≡ Ok tt → ImageKept L s
 unfolding image_rules
 image-kept L s k e =
     let r9 = kept-front _ _ e in

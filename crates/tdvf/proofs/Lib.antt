@@ -4,5 +4,6 @@ pub mod Kept
 pub mod Descriptor
 pub mod Shares
 pub mod Sums
+pub mod Rest
 pub mod Example
 pub mod Alike

@@ -1,16 +1,16 @@
 -- Page 01, "The image": what a launch reads of an image besides the data of its pages, and the descriptor.
 -- Bytes past the end read as 0, so that every definition is total.
 -- Assumes nothing.
-use Rattle.std.specs.Prelude.{Bool, not, ◌||◌, List, [], ◌∷◌, ℕ, ◌+◌, ◌-◌, ◌*◌, min, ltb, eqb}
+use Rattle.std.specs.Prelude.{Bool, not, ◌||◌, List, [], ◌∷◌, ℕ, ◌+◌, ◌-◌, ◌*◌, min, ltb, eqb, Result, Ok}
+use Rattle.std.specs.Result.{result_and}
 use Rattle.std.proofs.Math.ListN as list
 use Rattle.wire.specs.Number.{number_at}
 use Rattle.verdict.specs.declared.Place.TheVariants.{Nowhere}
-use Rattle.verdict.specs.Refusal.{number}
+use Rattle.verdict.specs.declared.Refusal.{Refusal}
 use Rattle.verdict.specs.Turns.{up_to}
-use Rattle.verdict.specs.Rules.{Rule, rule, pick, judge}
+use Rattle.verdict.specs.Rules.{Rule, rule, judge}
 use Rattle.tdvf.specs.declared.Section.{Section}
 use Rattle.tdvf.specs.declared.Located.{Located}
-use Rattle.tdvf.specs.declared.Located.TheVariants.{At, Refused}
 
 -- ---- what is read
 
@@ -106,7 +106,5 @@ descriptor_rules f =
     rule 8 Nowhere (descriptor_broken f) ∷ []
 
 -- where the descriptor is, or the first of these rules that is broken
-unfoldable pub located : Fields → Located
-located f =
-    let r = judge (descriptor_rules f) in
-    pick (eqb (number r) 0) (At f.offset (section_count f.descriptor)) (Refused r)
+unfoldable pub located : Fields → Result Located Refusal
+located f = result_and (judge (descriptor_rules f)) (Ok (record { offset = f.offset; count = section_count f.descriptor }))

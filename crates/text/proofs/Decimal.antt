@@ -1,14 +1,16 @@
 -- Decimal digits: one more digit, how many there are, and what they hold. Assumes nothing.
-use mathlib.Core.Path.{◌≡◌, refl, sym, ap, ◌∙◌}
+use mathlib.Core.Path.{◌≡◌, refl, sym, ap, ap₂, ◌∙◌}
 use mathlib.Core.List.{List, [], ◌∷◌, ◌++◌}
-use Prim.Native.Nat.{ℕ, zero, suc, ◌+◌, ◌-◌, ◌/◌, ◌^◌, ◌≤◌, ◌<◌}
-use native.Mathlib.Nat.{div-lt_self}
+use Prim.Native.Nat.{ℕ, zero, suc, ◌+◌, ◌-◌, ◌*◌, ◌/◌, ◌%◌, ◌^◌, ◌≤◌, ◌<◌}
+use native.Mathlib.Nat.{div-lt_self, pow-zero, pow-succ', one-le-pow}
 use native.Mathlib.Numerals.{add-one}
 use native.Mathlib.Omega.{arith}
 use lib.Dec.{lit<}
 use lib.ListN.{length}
-use Rattle.text.specs.Text.{last_digit, within, leading, decimal}
-use Rattle.text.proofs.Digits.{digits, length_more, less_one, value_from, value-last}
+use Rattle.std.specs.Prelude.{Option, None, Some, IfNone, IfSome, unwrap_or}
+use Rattle.text.specs.Text.{last_digit, within, leading, decimal, hex_digit, digits}
+use Rattle.text.proofs.Hexadecimal.{digit_low}
+use Rattle.text.proofs.Digits.{length_more, less_one, value_from, value-last}
 
 -- ---- one more digit
 
@@ -65,22 +67,60 @@ decimal-most v h =
     let part : v / 10 < 10 ^ 19 = less_one 10 19 v (lit< tt) (omega arith) in
     omega (arith, length-decimal v, length-within 19 (v / 10) (v / 10) part)
 
+-- a number of 10 ^ n or more has more than n digits
+length-within-least : (n steps v : ℕ) → v ≤ steps → 10 ^ n ≤ v → n < length (within steps v)
+unfolding within
+length-within-least n zero v g h = absurd (omega (arith, one-le-pow n 10 (lit< tt)))
+length-within-least n (suc steps) zero g h = absurd (omega (arith, one-le-pow n 10 (lit< tt)))
+length-within-least zero (suc steps) (suc v) g h = omega (arith, length_more (within steps (suc v / 10)) (last_digit (suc v)))
+length-within-least (suc n) (suc steps) (suc v) g h =
+    let less : suc v / 10 < suc v = tenth (suc v) (omega arith) in
+    omega (
+      arith,
+      length_more (within steps (suc v / 10)) (last_digit (suc v)),
+      length-within-least n steps (suc v / 10) (omega arith) (omega (arith, pow-succ' 10 n)),
+    )
+
+-- so one whose logarithm is n has n + 1
+logarithm-is : (n v : ℕ) → 10 ^ n ≤ v → v < 10 * 10 ^ n → 1 + n ≡ length (decimal v)
+unfolding leading
+logarithm-is zero v l h = omega (arith, pow-zero 10, length-decimal v, length-within 0 (v / 10) (v / 10) (omega (arith, pow-zero 10)))
+logarithm-is (suc n) v l h =
+    omega (
+      arith,
+      length-decimal v,
+      length-within (suc n) (v / 10) (v / 10) (omega (arith, pow-succ' 10 n)),
+      length-within-least n (v / 10) (v / 10) (omega arith) (omega (arith, pow-succ' 10 n)),
+    )
+
+-- the logarithm, or 0 where there is none
+pub count_is : (o : Option ℕ) (v : ℕ) →
+    IfNone o (v ≡ 0) → IfSome o (λ n. 10 ^ n ≤ v) → IfSome o (λ n. v < 10 * 10 ^ n) → 1 + unwrap_or o 0 ≡ length (decimal v)
+unfolding decimal leading within
+count_is None v z l h = rw z
+count_is (Some n) v z l h = logarithm-is n v l h
+
 -- ---- as many as there are
 
-within-digits : (steps v : ℕ) → within steps v ≡ digits 10 last_digit (length (within steps v)) v
+-- the code of the last decimal digit is that of any base
+same-code : (v : ℕ) → last_digit v ≡ hex_digit (v % 10)
+same-code v = sym (digit_low (v % 10) (omega arith))
+
+within-digits : (steps v : ℕ) → within steps v ≡ digits 10 (length (within steps v)) v
 unfolding within digits
 within-digits zero v = refl
 within-digits (suc steps) zero = refl
 within-digits (suc steps) (suc v) =
-    ap (λ (s : List ℕ). s ++ (last_digit (suc v) ∷ [])) (within-digits steps (suc v / 10))
-    ∙ ap (λ (k : ℕ). digits 10 last_digit k (suc v)) (sym (length_more (within steps (suc v / 10)) (last_digit (suc v)) ∙ add-one (length (within steps (suc v / 10)))))
+    let front : List ℕ = within steps (suc v / 10) in
+    ap₂ (λ (s : List ℕ) (d : ℕ). s ++ (d ∷ [])) (within-digits steps (suc v / 10)) (same-code (suc v))
+    ∙ ap (λ (k : ℕ). digits 10 k (suc v)) (sym (length_more front (last_digit (suc v)) ∙ add-one (length front)))
 
 -- a number's own digits are as many of its last ones as there are
-pub decimal-digits : (v : ℕ) → decimal v ≡ digits 10 last_digit (length (decimal v)) v
+pub decimal_digits : (v : ℕ) → decimal v ≡ digits 10 (length (decimal v)) v
 unfolding decimal leading digits
-decimal-digits v =
-    ap (λ (s : List ℕ). s ++ (last_digit v ∷ [])) (within-digits (v / 10) (v / 10))
-    ∙ ap (λ (k : ℕ). digits 10 last_digit k v) (sym (length-decimal v ∙ add-one (length (leading (v / 10)))))
+decimal_digits v =
+    ap₂ (λ (s : List ℕ) (d : ℕ). s ++ (d ∷ [])) (within-digits (v / 10) (v / 10)) (same-code v)
+    ∙ ap (λ (k : ℕ). digits 10 k v) (sym (length-decimal v ∙ add-one (length (leading (v / 10)))))
 
 -- ---- what the digits hold
 

@@ -1,24 +1,21 @@
--- Hexadecimal digits: "0" to "9" and "a" to "f", how many there are, and what they hold. Assumes nothing.
+-- Hexadecimal digits: "0" to "9" and "a" to "f", and what they hold. Assumes nothing.
 use mathlib.Core.Path.{◌≡◌, refl, sym, ap, ◌∙◌}
 use mathlib.Core.Bool.{Bool, true, false}
 use mathlib.Core.List.{List, [], ◌∷◌, ◌++◌}
-use Prim.Native.Nat.{ℕ, zero, suc, ◌+◌, ◌-◌, ◌/◌, ◌%◌, ◌^◌, ◌≤◌, ◌<◌}
+use Prim.Native.Nat.{ℕ, suc, ◌+◌, ◌-◌, ◌/◌, ◌%◌, ◌^◌, ◌≤◌, ◌<◌}
 use native.Mathlib.Omega.{arith}
 use lib.Dec.{ltb, lit<}
-use lib.ListN.{length}
 use borrow.Author.Tests.{ltb-true, ltb-false, lt-ltb, le-ltb}
 use Rattle.verdict.specs.Rules.{pick}
-use Rattle.text.specs.Text.{hex_digit, hexadecimal}
-use Rattle.text.proofs.Digits.{digits, length_digits, value_from, value-digits}
+use Rattle.text.specs.Text.{hex_digit, digits, hexadecimal}
+use Rattle.text.proofs.Digits.{value_from, value-digits}
 
 -- ---- a digit
 
 pub digit_low : (d : ℕ) → d < 10 → hex_digit d ≡ 48 + d
-unfolding hex_digit
 digit_low d h = rw (lt-ltb d 10 h)
 
 pub digit-high : (d : ℕ) → 10 ≤ d → hex_digit d ≡ 87 + d
-unfolding hex_digit
 digit-high d h = rw (le-ltb d 10 h)
 
 -- what the digit of code c counts
@@ -46,19 +43,10 @@ worth-digit d = step (ltb d 10) refl
 
 -- ---- n digits
 
--- the code of the last digit
-abbrev pub last : ℕ → ℕ
-last v = hex_digit (v % 16)
-
-pub hexadecimal-digits : (n v : ℕ) → hexadecimal n v ≡ digits 16 last n v
-unfolding hexadecimal digits
-hexadecimal-digits zero v = refl
-hexadecimal-digits (suc n) v = ap (λ (s : List ℕ). s ++ (last v ∷ [])) (hexadecimal-digits n (v / 16))
-
-pub length-hexadecimal : (n v : ℕ) → length (hexadecimal n v) ≡ n
-length-hexadecimal n v = ap length (hexadecimal-digits n v) ∙ length_digits 16 last n v
-
--- ---- what the digits hold
+-- the last digit stands behind the others
+pub hexadecimal-digits : (n v : ℕ) → hexadecimal (suc n) v ≡ hexadecimal n (v / 16) ++ (hex_digit (v % 16) ∷ [])
+unfolding digits
+hexadecimal-digits n v = refl
 
 -- the number that hexadecimal digits hold
 abbrev pub value : List ℕ → ℕ
@@ -66,7 +54,7 @@ value = value_from 16 worth 0
 
 -- the digits of a number hold that number, where there are enough of them
 pub hexadecimal-value : (n v : ℕ) → v < 16 ^ n → value (hexadecimal n v) ≡ v
-hexadecimal-value n v h = ap value (hexadecimal-digits n v) ∙ value-digits 16 last worth (λ w. worth-digit (w % 16)) (lit< tt) n v h
+hexadecimal-value n v h = value-digits 16 worth worth-digit (lit< tt) n v h
 
 -- so no two addresses have the same text
 pub hexadecimal-apart : (n v w : ℕ) → v < 16 ^ n → w < 16 ^ n → hexadecimal n v ≡ hexadecimal n w → v ≡ w

@@ -1,5 +1,5 @@
 -- Page 01, "A launch in full": the text of an answer, as ASCII codes. Assumes nothing.
-use Rattle.std.specs.Prelude.{List, [], ◌∷◌, ◌++◌, ℕ, zero, suc, ◌+◌, ◌/◌, ◌%◌, ltb}
+use Rattle.std.specs.Prelude.{Option, List, [], ◌∷◌, ◌++◌, ℕ, zero, suc, ◌+◌, ◌/◌, ◌%◌, ltb}
 use Rattle.verdict.specs.Rules.{pick}
 use Rattle.verdict.specs.declared.Place.{Place}
 use Rattle.verdict.specs.declared.Place.TheVariants.{Nowhere, Section, Record}
@@ -28,65 +28,78 @@ unfoldable pub decimal : ℕ → List ℕ
 decimal v = leading (v / 10) ++ (last_digit v ∷ [])
 
 -- the code of the hexadecimal digit d, below 16: 48 is "0", and 87 + 10 is "a"
-unfoldable pub hex_digit : ℕ → ℕ
+abbrev pub hex_digit : ℕ → ℕ
 hex_digit d = pick (ltb d 10) (48 + d) (87 + d)
 
--- the last n hexadecimal digits of v, the highest first, with zeros in front
-unfoldable pub hexadecimal : ℕ → ℕ → List ℕ
-hexadecimal zero v = []
-hexadecimal (suc n) v = hexadecimal n (v / 16) ++ (hex_digit (v % 16) ∷ [])
+-- the last n digits of v in a base up to 16, the highest first, with zeros in front
+unfoldable pub digits : ℕ → ℕ → ℕ → List ℕ
+digits base zero v = []
+digits base (suc n) v = digits base n (v / base) ++ (hex_digit (v % base) ∷ [])
+
+-- the last n hexadecimal digits of v
+abbrev pub hexadecimal : ℕ → ℕ → List ℕ
+hexadecimal n v = digits 16 n v
+
+-- ---- parts of a line
+
+-- a label, and v behind it
+unfoldable pub labelled : List ℕ → ℕ → List ℕ
+labelled label v = label ++ decimal v
+
+-- the end of a line
+unfoldable pub newline : List ℕ
+newline = 10 ∷ []
 
 -- ---- a refusal
 
 -- "refused "
-unfoldable pub refused_label : List ℕ
+abbrev pub refused_label : List ℕ
 refused_label = 0x72 ∷ 0x65 ∷ 0x66 ∷ 0x75 ∷ 0x73 ∷ 0x65 ∷ 0x64 ∷ 0x20 ∷ []
 
 -- " section "
-unfoldable pub section_label : List ℕ
+abbrev pub section_label : List ℕ
 section_label = 0x20 ∷ 0x73 ∷ 0x65 ∷ 0x63 ∷ 0x74 ∷ 0x69 ∷ 0x6F ∷ 0x6E ∷ 0x20 ∷ []
 
 -- " record "
-unfoldable pub record_label : List ℕ
+abbrev pub record_label : List ℕ
 record_label = 0x20 ∷ 0x72 ∷ 0x65 ∷ 0x63 ∷ 0x6F ∷ 0x72 ∷ 0x64 ∷ 0x20 ∷ []
 
 -- "or `refused 5` where no place is named": nothing, or a space, what is counted, a space and its index
-unfoldable pub place_text : Place → List ℕ
+abbrev pub place_text : Place → List ℕ
 place_text Nowhere = []
-place_text (Section k) = section_label ++ decimal k
-place_text (Record k) = record_label ++ decimal k
+place_text (Section k) = labelled section_label k
+place_text (Record k) = labelled record_label k
 
 -- "A refusal prints `refused 13 section 2`", and a newline
-unfoldable pub refusal_text : Refusal → List ℕ
-refusal_text r = (refused_label ++ decimal (number r)) ++ (place_text (place r) ++ (10 ∷ []))
+abbrev pub refusal_text : Option Refusal → List ℕ
+refusal_text r = labelled refused_label (number r) ++ (place_text (place r) ++ newline)
 
 -- ---- an accepted launch
 
 -- "pages "
-unfoldable pub pages_label : List ℕ
+abbrev pub pages_label : List ℕ
 pages_label = 0x70 ∷ 0x61 ∷ 0x67 ∷ 0x65 ∷ 0x73 ∷ 0x20 ∷ []
 
 -- " hob "
-unfoldable pub hob_label : List ℕ
+abbrev pub hob_label : List ℕ
 hob_label = 0x20 ∷ 0x68 ∷ 0x6F ∷ 0x62 ∷ 0x20 ∷ []
 
 -- " blocks "
-unfoldable pub blocks_label : List ℕ
+abbrev pub blocks_label : List ℕ
 blocks_label = 0x20 ∷ 0x62 ∷ 0x6C ∷ 0x6F ∷ 0x63 ∷ 0x6B ∷ 0x73 ∷ 0x20 ∷ []
 
 -- "Line 1: pages, HOB bytes, blocks", as in `pages 4 hob 256 blocks 52`, and a newline
-unfoldable pub summary_text : ℕ → ℕ → ℕ → List ℕ
-summary_text pages handoff blocks =
-    (pages_label ++ decimal pages) ++ ((hob_label ++ decimal handoff) ++ ((blocks_label ++ decimal blocks) ++ (10 ∷ [])))
+abbrev pub summary_text : ℕ → ℕ → ℕ → List ℕ
+summary_text pages handoff blocks = labelled pages_label pages ++ (labelled hob_label handoff ++ (labelled blocks_label blocks ++ newline))
 
 -- a space, and v behind it
-unfoldable pub spaced : ℕ → List ℕ
-spaced v = (0x20 ∷ []) ++ decimal v
+abbrev pub spaced : ℕ → List ℕ
+spaced v = labelled (0x20 ∷ []) v
 
 -- "Then address in 16 hex digits, data offset, data length, type, measured", as in `00000000fffff000 0 4096 0 1`, and a newline
-unfoldable pub page_text : Page → List ℕ
+abbrev pub page_text : Page → List ℕ
 page_text p =
-    hexadecimal 16 p.address ++ (spaced p.offset ++ (spaced p.length ++ (spaced p.sort ++ (spaced p.measured ++ (10 ∷ [])))))
+    hexadecimal 16 p.address ++ (spaced p.offset ++ (spaced p.length ++ (spaced p.sort ++ (spaced p.measured ++ newline))))
 
 -- each byte in two hexadecimal digits, one byte behind the other
 unfoldable pub bytes_text : List ℕ → List ℕ
@@ -94,5 +107,5 @@ bytes_text [] = []
 bytes_text (b ∷ bs) = hexadecimal 2 b ++ bytes_text bs
 
 -- the measurement, and a newline
-unfoldable pub measurement_text : List ℕ → List ℕ
-measurement_text m = bytes_text m ++ (10 ∷ [])
+abbrev pub measurement_text : List ℕ → List ℕ
+measurement_text m = bytes_text m ++ newline

@@ -1,99 +1,84 @@
-// The text of an answer, written into a lent buffer.
+// The text of an answer, written into a lent buffer. No writer allocates or can fail, and each that writes a text answers where it ends,
+// so that the next can go on there. The contracts cite `specs/Text.antt`.
 //
-// The contracts cite `specs/Text.antt`. Each writer but `put_byte`, whose text always has two bytes, answers
-// where its text ends, so that the next can go on there.
+// No `Display` in their place: it can fail, and its `output` speaks of an `Ok` alone, so that a `fmt` that answers nothing but `Err` is
+// proved; `put_refusal` and the others promise the bytes and the length of every call.
+// No cursor that holds the buffer and the place: tried, with both as fields; behind a field's `&mut` the proof does not know at the end that
+// the buffer written is the caller's. `put_decimal` and `put_labelled` take both in any case.
 
 #![tactic(auto)]
 
-ghost use Rattle.std.specs.Prelude.{◌≡◌, [], ◌∷◌, ◌++◌, ◌+◌, ◌*◌, ◌%◌, ◌≤◌, length};
+ghost use Rattle.std.specs.Prelude.{◌≡◌, ◌+◌, ◌*◌, ◌<◌, ◌≤◌, length};
 ghost use Rattle.std.proofs.lemmas.List.Edits.{sets};
-ghost use Rattle.text.specs.Text.{last_digit, decimal, hex_digit, hexadecimal, place_text, refusal_text, summary_text, spaced, page_text, bytes_text, measurement_text};
+ghost use Rattle.text.specs.Text.{decimal, hex_digit, digits, hexadecimal, labelled, newline, place_text, refusal_text, summary_text, spaced, page_text, bytes_text, measurement_text};
 
 use plan::Page;
 use verdict::{Place, Refusal, number_of, place_of};
 
 // ---- numbers
 
-// The ASCII code of the last decimal digit.
-fn last_digit(value: u64) -> u8
-    ensures { result ≡ last_digit value }
+// The ASCII code of a digit, in lower case.
+fn digit_code(digit: u8) -> u8
+    requires { digit < 16 }
+    ensures { result ≡ hex_digit digit }
 {
-    48 + (value % 10) as u8
+    if digit < 10 { 48 + digit } else { 87 + digit }
+}
+
+// Writes the last `count` digits of a number at `at`, the last one first.
+#[tactic(auto, using(crate::proofs::Digits::sets_digits, crate::proofs::Digits::sets_none))]
+fn put_digits<const BASE: u64>(buffer: &mut [u8], at: usize, count: usize, value: u64)
+    requires base { (0 < BASE) × (BASE ≤ 16) }
+    requires room { at + count ≤ length buffer.old }
+    ensures { buffer.new ≡ sets buffer.old at (digits BASE count value) }
+{
+    let mut rest = value;
+    for k in (0..count).rev() {
+        buffer[at + k] = digit_code((rest % BASE) as u8);
+        rest /= BASE;
+    }
 }
 
 // How many decimal digits a number has; 0 has one.
+#[tactic(auto, using(crate::proofs::Decimal::count_is))]
 fn digit_count(value: u64) -> usize
-    ensures { result ≡ length (decimal value) }
+    ensures is { result ≡ length (decimal value) }
+    ensures at_most { result ≤ 20 }
 {
-    let mut count = 1;
-    let mut rest = value / 10;
-    while 0 < rest {
-        rest = rest / 10;
-        count += 1;
-    }
-    count
+    1 + value.checked_ilog10().unwrap_or(0) as usize
 }
 
-// Writes a number at `at` in decimal digits, of which there are at most 20, the last one first.
+// Writes a number at `at` in decimal digits.
+#[tactic(auto, using(crate::proofs::Decimal::decimal_digits))]
 pub fn put_decimal(buffer: &mut [u8], at: usize, value: u64) -> usize
     requires { at + 20 ≤ length buffer.old }
     ensures written { buffer.new ≡ sets buffer.old at (decimal value) }
     ensures next_place { result ≡ at + length (decimal value) }
+    ensures at_most { result ≤ at + 20 }
 {
     let count = digit_count(value);
-    let mut left = count;
-    let mut rest = value;
-    while 0 < left {
-        left -= 1;
-        buffer[at + left] = last_digit(rest);
-        rest = rest / 10;
-    }
+    put_digits::<10>(buffer, at, count, value);
     at + count
 }
 
-// The ASCII code of the last hexadecimal digit, in lower case.
-fn last_hexadecimal(value: u64) -> u8
-    ensures { result ≡ hex_digit (value % 16) }
-{
-    let digit = (value % 16) as u8;
-    if digit < 10 {
-        return 48 + digit;
-    }
-    87 + digit
-}
-
-// Writes a number at `at` in 16 hexadecimal digits, as many as the largest has, the last one first.
+// Writes a number at `at` in 16 hexadecimal digits, as many as the largest has.
 fn put_hexadecimal(buffer: &mut [u8], at: usize, value: u64) -> usize
     requires { at + 16 ≤ length buffer.old }
     ensures written { buffer.new ≡ sets buffer.old at (hexadecimal 16 value) }
     ensures next_place { result ≡ at + 16 }
 {
-    let mut left = 16;
-    let mut rest = value;
-    while 0 < left {
-        left -= 1;
-        buffer[at + left] = last_hexadecimal(rest);
-        rest = rest / 16;
-    }
+    put_digits::<16>(buffer, at, 16, value);
     at + 16
-}
-
-// Writes a byte at `at` in two hexadecimal digits, the high one first.
-fn put_byte(buffer: &mut [u8], at: usize, byte: u8)
-    requires { at + 2 ≤ length buffer.old }
-    ensures { buffer.new ≡ sets buffer.old at (hexadecimal 2 byte) }
-{
-    buffer[at] = last_hexadecimal(byte as u64 / 16);
-    buffer[at + 1] = last_hexadecimal(byte as u64);
 }
 
 // ---- parts of a line
 
 // Writes a label at `at`, and a number behind it, of at most 20 digits.
+#[tactic(auto, using(wire::proofs::Sets::sets_then), unfolding(crate::specs::Text::labelled))]
 pub fn put_labelled(buffer: &mut [u8], at: usize, label: &[u8], value: u64) -> usize
     requires { at + (length label.now + 20) ≤ length buffer.old }
-    ensures written { buffer.new ≡ sets buffer.old at (label.now ++ decimal value) }
-    ensures next_place { result ≡ at + length (label.now ++ decimal value) }
+    ensures written { buffer.new ≡ sets buffer.old at (labelled label.now value) }
+    ensures next_place { result ≡ at + length (labelled label.now value) }
     ensures at_most { result ≤ at + (length label.now + 20) }
 {
     wire::copy(buffer, at, label);
@@ -101,9 +86,10 @@ pub fn put_labelled(buffer: &mut [u8], at: usize, label: &[u8], value: u64) -> u
 }
 
 // Writes the newline of a line that ends at `end`.
+#[tactic(auto, unfolding(crate::specs::Text::newline))]
 fn put_newline(buffer: &mut [u8], end: usize) -> usize
     requires { end + 1 ≤ length buffer.old }
-    ensures written { buffer.new ≡ sets buffer.old end (10 ∷ []) }
+    ensures written { buffer.new ≡ sets buffer.old end newline }
     ensures next_place { result ≡ end + 1 }
 {
     buffer[end] = b'\n';
@@ -127,7 +113,8 @@ fn put_place(buffer: &mut [u8], at: usize, place: Place) -> usize
 }
 
 // Writes a refusal's line at the start of the buffer, at most 58 bytes, and answers how long it is.
-pub fn put_refusal(buffer: &mut [u8], refusal: Refusal) -> usize
+#[tactic(auto, using(crate::proofs::Texts::one_behind_another))]
+pub fn put_refusal(buffer: &mut [u8], refusal: Option<Refusal>) -> usize
     requires { 64 ≤ length buffer.old }
     ensures written { buffer.new ≡ sets buffer.old 0 (refusal_text refusal) }
     ensures next_place { result ≡ length (refusal_text refusal) }
@@ -141,6 +128,7 @@ pub fn put_refusal(buffer: &mut [u8], refusal: Refusal) -> usize
 // ---- an accepted launch
 
 // Writes the first line of a listing at the start of the buffer, at most 80 bytes, and answers how long it is.
+#[tactic(auto, using(crate::proofs::Texts::one_behind_another))]
 pub fn put_summary(buffer: &mut [u8], pages: u64, handoff: u64, blocks: u64) -> usize
     requires { 96 ≤ length buffer.old }
     ensures written { buffer.new ≡ sets buffer.old 0 (summary_text pages handoff blocks) }
@@ -164,6 +152,7 @@ fn put_spaced(buffer: &mut [u8], at: usize, value: u64) -> usize
 }
 
 // Writes a page's line at the start of the buffer, at most 101 bytes, and answers how long it is.
+#[tactic(auto, using(crate::proofs::Texts::one_behind_another))]
 pub fn put_page(buffer: &mut [u8], p: Page) -> usize
     requires { 128 ≤ length buffer.old }
     ensures written { buffer.new ≡ sets buffer.old 0 (page_text p) }
@@ -179,21 +168,21 @@ pub fn put_page(buffer: &mut [u8], p: Page) -> usize
 }
 
 // Writes bytes at the start of the buffer, in two hexadecimal digits each, and answers where they end.
+#[tactic(auto, using(crate::proofs::Bytes::sets_bytes, crate::proofs::Bytes::bytes_none))]
 fn put_bytes(buffer: &mut [u8], bytes: &[u8]) -> usize
     requires { 2 * length bytes.now ≤ length buffer.old }
     ensures written { buffer.new ≡ sets buffer.old 0 (bytes_text bytes.now) }
     ensures next_place { result ≡ 2 * length bytes.now }
 {
-    let mut index = 0;
-    while index < bytes.len() {
-        put_byte(buffer, 2 * index, bytes[index]);
-        index += 1;
+    for (k, byte) in bytes.iter().enumerate() {
+        put_digits::<16>(buffer, 2 * k, 2, *byte as u64);
     }
-    2 * index
+    2 * bytes.len()
 }
 
 // Writes a measurement's line at the start of the buffer, and answers how long it is: two digits for each of the 48 bytes, and the
 // newline.
+#[tactic(auto, using(crate::proofs::Texts::one_behind_another))]
 pub fn put_measurement(buffer: &mut [u8], measurement: &[u8; 48]) -> usize
     requires { 97 ≤ length buffer.old }
     ensures written { buffer.new ≡ sets buffer.old 0 (measurement_text measurement.now) }

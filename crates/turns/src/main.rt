@@ -6,11 +6,9 @@
 
 ghost use Rattle.std.specs.Prelude.{◌≤◌, length};
 
-use files::{print_line, print_refusal, read_file};
+use files::{print_line, print_measurement, print_refusal, with_inputs};
 use measure::{Progress, turn};
 use std::io;
-use std::io::Write;
-use verdict::Refusal;
 
 // What turns to the end came to.
 #[derive(Clone, Copy)]
@@ -21,6 +19,7 @@ struct Run {
 }
 
 // Measures to the end, and counts what the turns report. A turn that does nothing (24, 27) would do nothing again.
+// A `while`, and no `for`: what ends it is a turn's answer, and no count of turns is known before it.
 fn finish(start: Progress, image: &[u8], plan: &[u8], quota: u64) -> Run {
     let mut state = start;
     let mut turns: u64 = 0;
@@ -48,42 +47,35 @@ fn print_labelled<R: Print>(rt: &R, label: &[u8], value: u64) -> io::Result<()>
 {
     let mut line = [0u8; 28];
     let count = text::put_labelled(&mut line, 0, label, value);
-    print_line(rt, &line, count)
+    print_line(rt, &line[..count])
 }
 
 fn print_run<R: Print>(rt: &R, quota: u64, run: Run) -> io::Result<()> {
     print_labelled(rt, b"quota ", quota)?;
     print_labelled(rt, b" turns ", run.turns)?;
     print_labelled(rt, b" blocks ", run.blocks)?;
-    io::writer(rt).write_all(b"\n")?;
+    print_line(rt, b"\n")?;
     let measurement = run.measurement;
-    let mut line = [0u8; 97];
-    let count = text::put_measurement(&mut line, &measurement);
-    print_line(rt, &line, count)
+    print_measurement(rt, &measurement)
 }
 
 fn print_runs<R: Print>(rt: &R, start: Progress, image: &[u8], plan: &[u8]) -> io::Result<()> {
-    let refusal = start.refusal;
-    let Refusal::Nothing = refusal else {
-        return print_refusal(rt, refusal);
-    };
-    print_run(rt, 1, finish(start, image, plan, 1))?;
-    print_run(rt, 5, finish(start, image, plan, 5))?;
-    print_run(rt, 1000, finish(start, image, plan, 1000))
+    if start.refusal.is_some() {
+        return print_refusal(rt, start.refusal);
+    }
+    for quota in [1, 5, 1000] {
+        print_run(rt, quota, finish(start, image, plan, quota))?;
+    }
+    Ok(())
 }
 
-// The image's buffer has a byte more than an image may have, so that one too long is seen. A map of 64 records has 1,536 bytes,
-// and one that the map's buffer cuts short has too many records either way.
-fn main(rt: HostRuntime) -> io::Result<()> {
-    let mut image = [0u8; 65537];
-    let length = read_file(&rt, b"image.bin", &mut image);
-    if 65536 < length {
-        return io::writer(&rt).write_all(b"too long\n");
-    }
-    let mut map = [0u8; 4096];
-    let size = read_file(&rt, b"map.bin", &mut map);
+fn print_launch<R: Print>(rt: &R, image: &[u8], map: &[u8]) -> io::Result<()> {
     let mut plan = [0u8; 65536];
     let mut handoff = [0u8; 8192];
-    let begun = launch::begin(&image[..length], &map[..size], 48, &mut plan, &mut handoff);
-    print_runs(&rt, begun.progress, &image[..length], &plan)
+    let begun = launch::begin(image, map, 48, &mut plan, &mut handoff);
+    print_runs(rt, begun.progress, image, &plan)
+}
+
+fn main(rt: HostRuntime) -> io::Result<()> {
+    with_inputs(&rt, |image, map| print_launch(&rt, image, map))
 }

@@ -6,8 +6,8 @@
 
 ghost use Rattle.std.specs.Prelude.{◌<◌};
 
-use std::io;
 use std::io::Write;
+use std::{array, io};
 
 fn digit(n: u8) -> u8
     requires { n < 16 }
@@ -15,23 +15,11 @@ fn digit(n: u8) -> u8
     if n < 10 { 48 + n } else { 87 + n }
 }
 
-// A byte as a parameter is known to be below 256, which one read from an array is not.
-fn high_digit(byte: u8) -> u8 {
-    digit(byte / 16)
-}
-
-fn low_digit(byte: u8) -> u8 {
-    digit(byte % 16)
-}
-
 fn hex(digest: &[u8; 48]) -> [u8; 96] {
     let mut text = [0u8; 96];
-    let mut i = 0;
-    while i < 48 {
-        let byte = digest[i];
-        text[2 * i] = high_digit(byte);
-        text[2 * i + 1] = low_digit(byte);
-        i += 1;
+    for (i, &byte) in digest.iter().enumerate() {
+        text[2 * i] = digit(byte / 16);
+        text[2 * i + 1] = digit(byte % 16);
     }
     text
 }
@@ -47,26 +35,17 @@ fn line<R: Print>(rt: &R, label: &[u8], digest: [u8; 48]) -> io::Result<()> {
 
 // One million times "a" is not lent whole but hashed by blocks: 7,812 of them, and 64 bytes that are left.
 fn million() -> [u8; 48] {
-    let table = sha384::table();
     let a = [b'a'; 128];
     let mut state = sha384::start();
-    let mut n: usize = 0;
-    while n < 7812 {
-        state = sha384::block(state, &a, &table);
-        n += 1;
+    for _ in 0..7812 {
+        state = sha384::block(state, &a);
     }
-    sha384::finish(state, &a[..64], 1_000_000, &table)
+    sha384::finish(state, &a[..64], 1_000_000)
 }
 
 // The message whose byte i is i modulo 251.
 fn counted() -> [u8; 256] {
-    let mut bytes = [0u8; 256];
-    let mut i = 0;
-    while i < 256 {
-        bytes[i] = (i % 251) as u8;
-        i += 1;
-    }
-    bytes
+    array::from_fn(|i| (i % 251) as u8)
 }
 
 // The line for its first n bytes; nothing where it has fewer.

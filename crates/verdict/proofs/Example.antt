@@ -2,10 +2,11 @@
 use mathlib.Core.Path.{◌≡◌, refl}
 use mathlib.Core.Bool.{true, false}
 use mathlib.Core.List.{List, [], ◌∷◌}
+use Rattle.std.specs.Prelude.{Ok, Err}
 use Prim.Native.Nat.{◌+◌}
 use Rattle.verdict.specs.declared.Place.TheVariants.{Nowhere, Section}
 use Rattle.verdict.specs.declared.Refusal.TheVariants as is
-use Rattle.verdict.specs.declared.Refusal.TheVariants.{Nothing, Data}
+use Rattle.verdict.specs.declared.Refusal.TheVariants.{Data}
 use Rattle.verdict.specs.Refusal.{refusal_of}
 use Rattle.verdict.specs.Turns.{in_turn, up_to}
 use Rattle.verdict.specs.Rules.{Rule, rule, judge}
@@ -13,7 +14,7 @@ use Rattle.verdict.specs.Rules.{Rule, rule, judge}
 pub row : List Rule
 row = rule 7 Nowhere false ∷ rule 12 (Section 1) true ∷ rule 13 (Section 0) true ∷ []
 
-pub first-of-two : judge row ≡ refusal_of 12 (Section 1)
+pub first-of-two : judge row ≡ Err (refusal_of 12 (Section 1))
 unfolding row judge
 first-of-two = refl
 
@@ -21,7 +22,7 @@ pub data-of-one : refusal_of 12 (Section 1) ≡ Data (Section 1)
 unfolding refusal_of
 data-of-one = refl
 
-pub none-broken : judge (rule 7 Nowhere false ∷ []) ≡ Nothing
+pub none-broken : judge (rule 7 Nowhere false ∷ []) ≡ Ok tt
 unfolding judge
 none-broken = refl
 

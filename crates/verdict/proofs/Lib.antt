@@ -1,8 +1,7 @@
--- The laws that the crates above cite: lists made in turn, what holds of each member, refusals and rows of rules, and
--- a refusal that is not nothing; the theorems of the verdict, and the verdict computed. Assumes nothing.
+-- The laws that the crates above cite: lists made in turn, what holds of each member, refusals and rows of rules; the theorems of the
+-- verdict, and the verdict computed. Assumes nothing.
 pub mod Turns
 pub mod Each
 pub mod Rules
-pub mod Else
 pub mod Verdict
 pub mod Example

@@ -6,29 +6,30 @@ use mathlib.Core.Bool.{Bool, true, false}
 use mathlib.Core.Logic.{◌↔◌, ◌⊎◌, inl, inr}
 use mathlib.Core.List.{List, [], ◌∷◌, ◌++◌, Memᴰ}
 use Prim.Native.Nat.{ℕ, ◌≤◌, ◌<◌}
+use Rattle.std.specs.Prelude.{Ok, Err}
+use Rattle.std.specs.Result.{result_err}
 use Rattle.verdict.specs.declared.Place.{Place}
-use Rattle.verdict.specs.declared.Refusal.TheVariants.{Nothing}
 use Rattle.verdict.specs.Refusal.{number, place, refusal_of}
-use Rattle.verdict.specs.Rules.{Rule, rule, judge, Kept, Numbered}
+use Rattle.verdict.specs.Rules.{Rule, Verdict, rule, judge, Kept, Numbered}
 use Rattle.verdict.specs.Turns.{in_turn}
 use Rattle.verdict.proofs.Each.{each_none, each-cons, each_append, each_turn}
-use Rattle.verdict.proofs.Rules.{either, number_of, place_of, refusal_is, judge-none, judge-kept, judge-broken, judge-refuses, judge-then}
+use Rattle.verdict.proofs.Rules.{either, number_of, place_of, refused-kept, judge-none, judge-kept, judge-broken, judge-refuses, judge-then}
 
 -- ---- accepted exactly if no rule is broken
 
-keeps : (rs : List Rule) → judge rs ≡ Nothing → Kept rs
+keeps : (rs : List Rule) → judge rs ≡ Ok tt → Kept rs
 keeps [] e = each_none _
-keeps (r ∷ rs) e = step (λ (n : judge rs ≡ Nothing). keeps rs n) (either r.broken)
+keeps (r ∷ rs) e = step (λ (n : judge rs ≡ Ok tt). keeps rs n) (either r.broken)
   where
-    step : (judge rs ≡ Nothing → Kept rs) → (r.broken ≡ true) ⊎ (r.broken ≡ false) → Kept (r ∷ rs)
+    step : (judge rs ≡ Ok tt → Kept rs) → (r.broken ≡ true) ⊎ (r.broken ≡ false) → Kept (r ∷ rs)
     step below (inl b) = absurd (judge-refuses r rs b e)
     step below (inr k) = (each-cons _ r rs).1 (k, below (sym (judge-kept r rs k) ∙ e))
 
-accepts : (rs : List Rule) → Kept rs → judge rs ≡ Nothing
+accepts : (rs : List Rule) → Kept rs → judge rs ≡ Ok tt
 accepts [] h = judge-none
 accepts (r ∷ rs) h = let both = (each-cons _ r rs).0 h in judge-kept r rs both.0 ∙ accepts rs both.1
 
-pub accepted-exactly : (rs : List Rule) → (judge rs ≡ Nothing) ↔ Kept rs
+pub accepted-exactly : (rs : List Rule) → (judge rs ≡ Ok tt) ↔ Kept rs
 accepted-exactly rs = (keeps rs, accepts rs)
 
 -- ---- else the first broken rule is answered
@@ -41,13 +42,13 @@ pub record First (rs : List Rule) : Type 0 where
   pub row : rs ≡ before ++ first ∷ after
   pub kept : Kept before
   pub broken : first.broken ≡ true
-  pub answer : judge rs ≡ refusal_of first.number first.place
+  pub answer : judge rs ≡ Err (refusal_of first.number first.place)
 
-pub refused-first : (rs : List Rule) → (judge rs ≡ Nothing → ⊥) → First rs
+pub refused-first : (rs : List Rule) → (judge rs ≡ Ok tt → ⊥) → First rs
 refused-first [] h = absurd (h judge-none)
-refused-first (r ∷ rs) h = step (λ (n : judge rs ≡ Nothing → ⊥). refused-first rs n) (either r.broken)
+refused-first (r ∷ rs) h = step (λ (n : judge rs ≡ Ok tt → ⊥). refused-first rs n) (either r.broken)
   where
-    step : ((judge rs ≡ Nothing → ⊥) → First rs) → (r.broken ≡ true) ⊎ (r.broken ≡ false) → First (r ∷ rs)
+    step : ((judge rs ≡ Ok tt → ⊥) → First rs) → (r.broken ≡ true) ⊎ (r.broken ≡ false) → First (r ∷ rs)
     step below (inl b) =
         record { before = []; first = r; after = rs; row = refl; kept = each_none _; broken = b; answer = judge-broken r rs b }
     step below (inr k) =
@@ -64,19 +65,19 @@ refused-first (r ∷ rs) h = step (λ (n : judge rs ≡ Nothing → ⊥). refuse
 
 -- the converse: what stands behind a broken rule does not matter, where all before it is kept
 pub first-refused : (before : List Rule) (r : Rule) (after : List Rule) → Kept before → r.broken ≡ true
-    → judge (before ++ r ∷ after) ≡ refusal_of r.number r.place
+    → judge (before ++ r ∷ after) ≡ Err (refusal_of r.number r.place)
 first-refused before r after k b = judge-then before (r ∷ after) (accepts before k) ∙ judge-broken r after b
 
-pub refused-exactly : (rs : List Rule) → (judge rs ≡ Nothing → ⊥) ↔ First rs
-refused-exactly rs = (refused-first rs, λ t e. refusal_is t.first.number t.first.place (sym t.answer ∙ e))
+pub refused-exactly : (rs : List Rule) → (judge rs ≡ Ok tt → ⊥) ↔ First rs
+refused-exactly rs = (refused-first rs, λ t e. refused-kept (sym t.answer ∙ e))
 
 -- ---- the answer's number and place are those of the first broken rule
 
 pub record Named (rs : List Rule) (t : First rs) : Type 0 where
   pub low : 1 ≤ t.first.number
   pub high : t.first.number ≤ 19
-  pub by_number : number (judge rs) ≡ t.first.number
-  pub by_place : place (judge rs) ≡ t.first.place
+  pub by_number : number (result_err (judge rs)) ≡ t.first.number
+  pub by_place : place (result_err (judge rs)) ≡ t.first.place
 
 pub named : (rs : List Rule) → Numbered rs → (t : First rs) → Named rs t
 named rs h t =
@@ -86,8 +87,8 @@ named rs h t =
     record {
       low = (h r m).0;
       high = (h r m).1;
-      by_number = ap number t.answer ∙ number_of r.number r.place (h r m).0 (h r m).1;
-      by_place = ap place t.answer ∙ place_of r.number r.place;
+      by_number = ap (λ (v : Verdict). number (result_err v)) t.answer ∙ number_of r.number r.place (h r m).0 (h r m).1;
+      by_place = ap (λ (v : Verdict). place (result_err v)) t.answer ∙ place_of r.number r.place;
     }
 
 -- ---- rows that are joined, and rows in turn

@@ -1,9 +1,8 @@
 -- Page 01, "Order of the rules": a row of rules, and the first that is broken. Assumes nothing.
-use Rattle.std.specs.Prelude.{◌≡◌, Bool, true, false, ℕ, ◌≤◌}
+use Rattle.std.specs.Prelude.{◌≡◌, Bool, true, false, ℕ, ◌≤◌, Result, Ok, Err}
 use mathlib.Core.List.{List, [], ◌∷◌, Memᴰ}
 use Rattle.verdict.specs.declared.Place.{Place}
 use Rattle.verdict.specs.declared.Refusal.{Refusal}
-use Rattle.verdict.specs.declared.Refusal.TheVariants.{Nothing}
 use Rattle.verdict.specs.Refusal.{refusal_of}
 
 -- a rule: the number that the page gives it, the place that it is tried at, and whether it is broken there
@@ -19,10 +18,14 @@ abbrev pub pick : {A : Type 0} → Bool → A → A → A
 pick true a b = a
 pick false a b = b
 
+-- what a row of rules comes to: all are kept, or the refusal of the first that is broken
+abbrev pub Verdict : Type 0
+Verdict = Result (Unit {0}) Refusal
+
 -- "The launch stops at the first broken rule and answers it"
-unfoldable pub judge : List Rule → Refusal
-judge [] = Nothing
-judge (r ∷ rs) = let rest = judge rs in pick r.broken (refusal_of r.number r.place) rest
+unfoldable pub judge : List Rule → Verdict
+judge [] = Ok tt
+judge (r ∷ rs) = let rest = judge rs in pick r.broken (Err (refusal_of r.number r.place)) rest
 
 -- no rule of the row is broken
 abbrev pub Kept : List Rule → Type 0

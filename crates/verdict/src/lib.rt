@@ -8,7 +8,7 @@
 ghost use Rattle.std.specs.Prelude.{◌≡◌};
 ghost use Rattle.verdict.specs.Refusal.{number, place};
 
-// Where a rule is broken.
+// Where a rule is broken. The owner's page names this form, an enum of none, section and record, so `Nowhere` is a case of it and no `None`.
 #[derive(Clone, Copy)]
 pub enum Place {
     // The page names no place.
@@ -19,11 +19,10 @@ pub enum Place {
     Record(usize),
 }
 
-// The rule that is broken, in the order of the page, or nothing.
+// The rule that is broken, in the order of the page. What a row of rules comes to is a `Result<(), Refusal>`, and where an answer
+// holds it, it is an `Option<Refusal>`.
 #[derive(Clone, Copy)]
 pub enum Refusal {
-    // No rule is broken: the launch is accepted.
-    Nothing,
     // 1: the plan buffer or the HOB buffer is too short.
     Buffers(Place),
     // 2: the guest address width is neither 48 nor 52.
@@ -64,60 +63,61 @@ pub enum Refusal {
     List(Place),
 }
 
-// The page's number of a refusal; 0 where nothing is refused.
+// The page's number of a refusal; 0 where nothing is refused. The definition with the page's number for each case, `number` of
+// `specs/Refusal.antt`, speaks of a refusal that may be none, as this function does: it is no `From` of the refusal alone.
 #[tactic(auto, unfolding(crate::specs::Refusal::number))]
-pub fn number_of(refusal: Refusal) -> u32
+pub fn number_of(refusal: Option<Refusal>) -> u32
     ensures { result ≡ number refusal }
 {
     match refusal {
-        Refusal::Nothing => 0,
-        Refusal::Buffers(_) => 1,
-        Refusal::Width(_) => 2,
-        Refusal::Length(_) => 3,
-        Refusal::Map(_) => 4,
-        Refusal::Offset(_) => 5,
-        Refusal::Signature(_) => 6,
-        Refusal::Version(_) => 7,
-        Refusal::Descriptor(_) => 8,
-        Refusal::Type(_) => 9,
-        Refusal::Attributes(_) => 10,
-        Refusal::Raw(_) => 11,
-        Refusal::Data(_) => 12,
-        Refusal::Memory(_) => 13,
-        Refusal::Outside(_) => 14,
-        Refusal::Shared(_) => 15,
-        Refusal::Boot(_) => 16,
-        Refusal::Handoff(_) => 17,
-        Refusal::Pages(_) => 18,
-        Refusal::List(_) => 19,
+        None => 0,
+        Some(Refusal::Buffers(_)) => 1,
+        Some(Refusal::Width(_)) => 2,
+        Some(Refusal::Length(_)) => 3,
+        Some(Refusal::Map(_)) => 4,
+        Some(Refusal::Offset(_)) => 5,
+        Some(Refusal::Signature(_)) => 6,
+        Some(Refusal::Version(_)) => 7,
+        Some(Refusal::Descriptor(_)) => 8,
+        Some(Refusal::Type(_)) => 9,
+        Some(Refusal::Attributes(_)) => 10,
+        Some(Refusal::Raw(_)) => 11,
+        Some(Refusal::Data(_)) => 12,
+        Some(Refusal::Memory(_)) => 13,
+        Some(Refusal::Outside(_)) => 14,
+        Some(Refusal::Shared(_)) => 15,
+        Some(Refusal::Boot(_)) => 16,
+        Some(Refusal::Handoff(_)) => 17,
+        Some(Refusal::Pages(_)) => 18,
+        Some(Refusal::List(_)) => 19,
     }
 }
 
-// The place of a refusal.
+// The place of a refusal; none where nothing is refused. It is no `From`, as `number_of` is none.
 #[tactic(auto, unfolding(crate::specs::Refusal::place))]
-pub fn place_of(refusal: Refusal) -> Place
+pub fn place_of(refusal: Option<Refusal>) -> Place
     ensures { result ≡ place refusal }
 {
     match refusal {
-        Refusal::Nothing => Place::Nowhere,
-        Refusal::Buffers(place) => place,
-        Refusal::Width(place) => place,
-        Refusal::Length(place) => place,
-        Refusal::Map(place) => place,
-        Refusal::Offset(place) => place,
-        Refusal::Signature(place) => place,
-        Refusal::Version(place) => place,
-        Refusal::Descriptor(place) => place,
-        Refusal::Type(place) => place,
-        Refusal::Attributes(place) => place,
-        Refusal::Raw(place) => place,
-        Refusal::Data(place) => place,
-        Refusal::Memory(place) => place,
-        Refusal::Outside(place) => place,
-        Refusal::Shared(place) => place,
-        Refusal::Boot(place) => place,
-        Refusal::Handoff(place) => place,
-        Refusal::Pages(place) => place,
-        Refusal::List(place) => place,
+        None => Place::Nowhere,
+        Some(Refusal::Buffers(place)) => place,
+        Some(Refusal::Width(place)) => place,
+        Some(Refusal::Length(place)) => place,
+        Some(Refusal::Map(place)) => place,
+        Some(Refusal::Offset(place)) => place,
+        Some(Refusal::Signature(place)) => place,
+        Some(Refusal::Version(place)) => place,
+        Some(Refusal::Descriptor(place)) => place,
+        Some(Refusal::Type(place)) => place,
+        Some(Refusal::Attributes(place)) => place,
+        Some(Refusal::Raw(place)) => place,
+        Some(Refusal::Data(place)) => place,
+        Some(Refusal::Memory(place)) => place,
+        Some(Refusal::Outside(place)) => place,
+        Some(Refusal::Shared(place)) => place,
+        Some(Refusal::Boot(place)) => place,
+        Some(Refusal::Handoff(place)) => place,
+        Some(Refusal::Pages(place)) => place,
+        Some(Refusal::List(place)) => place,
     }
 }

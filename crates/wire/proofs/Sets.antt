@@ -2,12 +2,14 @@
 -- Assumes nothing.
 use mathlib.Core.Path.{◌≡◌, refl, sym, ap, ◌∙◌}
 use Prim.Native.Nat.{ℕ, zero, suc, ◌+◌, ◌-◌, ◌≤◌, ◌<◌}
-use native.Mathlib.Nat.{add-zero, add-suc, suc-add, zero-add, sub-zero, suc-sub-suc, zero-sub}
+use native.Mathlib.Nat.{add-zero, add-suc, suc-add, zero-add}
 use native.Mathlib.Numerals.{add-one}
 use native.Mathlib.Omega.{arith}
-use mathlib.Core.List.{List, [], ◌∷◌, ◌++◌, append_assoc}
-use lib.ListN.{length, get_or, set, take, drop, replicate, length-set, length-append, length-drop, length-replicate, replicate-append-replicate}
-use lib.Seq.{sets, sets-eq, take-suc, length-take-le, take-set-le, take-set-lt, drop-set-lt, drop-set-add, get_or-set_same, get_or-set_other, set_comm, take-append_seam}
+use mathlib.Core.List.{List, [], ◌∷◌, ◌++◌, append_assoc, append-nil}
+use borrow.Rule.Slice.PartMut.{put_mid}
+use lib.ListN.{length, get_or, set, take, drop, replicate, length-set, length-append, length-drop, length-replicate, replicate-append-replicate, take-append-drop}
+use Rattle.std.proofs.lemmas.List.{drop-replicate, take_all, drop_all}
+use lib.Seq.{sets, sets-eq, take-suc, length-take-le, take-set-le, take-set-lt, drop-set-lt, drop-set-add, get_or-set_same, get_or-set_other, set_comm, take-append_seam, drop-drop}
 
 -- the index of the next element, counted from i or from the element behind i
 pub across : (i k : ℕ) → i + suc k ≡ suc i + k
@@ -108,11 +110,9 @@ module _ {ℓ} {A : Type ℓ} where
       ∙ ap (λ (r : List A). take (length ys) r) (drop-sets-inside i l ys 0 ∙ sets-front (drop i l) ys (omega (arith, length-drop i l)))
       ∙ take-append_seam ys (drop (length ys) (drop i l))
 
-  pub drop-replicate : (k n : ℕ) (a : A) → drop k (replicate n a) ≡ replicate (n - k) a
-  drop-replicate zero n a = ap (λ (m : ℕ). replicate m a) (sym (sub-zero n))
-  drop-replicate (suc k) zero a = ap (λ (m : ℕ). replicate m a) (sym (zero-sub (suc k)))
-  drop-replicate (suc k) (suc n) a = drop-replicate k n a ∙ ap (λ (m : ℕ). replicate m a) (sym (suc-sub-suc n k))
+-- ---- in a list of one element over and over, and in a part
 
+module _ {A : Type 0} where
   pub sets-replicate : (n : ℕ) (a : A) (ys : List A) → length ys ≤ n → sets (replicate n a) 0 ys ≡ ys ++ replicate (n - length ys) a
   sets-replicate n a ys h =
       sets-front (replicate n a) ys (omega (arith, length-replicate n a))
@@ -127,3 +127,22 @@ module _ {ℓ} {A : Type ℓ} where
       ∙ ap (λ (r : List A). ys ++ r) (ap (λ (j : ℕ). replicate j a) (sym rest) ∙ sym (replicate-append-replicate k (n - length (ys ++ replicate k a)) a))
       ∙ sym (append_assoc ys (replicate k a) (replicate (n - length (ys ++ replicate k a)) a))
       ∙ sym (sets-replicate n a (ys ++ replicate k a) (omega arith))
+
+  -- a write to a part, as `buffer[at..end].copy_from_slice(bytes)`: std says what it leaves by the three parts
+  pub part_sets : (l xs ys : List A) (at k : ℕ) → xs ≡ ys → k ≡ length ys → at + k ≤ length l → put_mid at k l xs ≡ sets l at ys
+  part_sets l xs ys at k same size h =
+      ap (λ (r : List A). take at l ++ (r ++ drop k (drop at l))) same
+      ∙ ap (λ (r : List A). take at l ++ (ys ++ r)) (drop-drop k at l ∙ ap (λ (m : ℕ). drop (at + m) l) size)
+      ∙ sym (append_assoc (take at l) ys (drop (at + length ys) l))
+      ∙ sym (sets-eq ys l at (omega arith))
+
+  -- a write at the start of what is left from `at` on, as `put(&mut buffer[at..], ..)`
+  pub rest_sets : (l xs ys : List A) (at k : ℕ) → xs ≡ sets (take k (drop at l)) 0 ys → at + k ≡ length l → put_mid at k l xs ≡ sets l at ys
+  rest_sets l xs ys at k e h =
+      let whole : length (drop at l) ≤ k = omega (arith, length-drop at l) in
+      let start : at + 0 ≡ at = omega arith in
+      ap (λ (r : List A). take at l ++ (xs ++ r)) (drop_all k (drop at l) whole)
+      ∙ ap (λ (r : List A). take at l ++ r) (append-nil xs ∙ e ∙ ap (λ (r : List A). sets r 0 ys) (take_all k (drop at l) whole) ∙ sym (drop-sets-inside at l ys 0))
+      ∙ ap (λ (i : ℕ). take at l ++ drop at (sets l i ys)) start
+      ∙ ap (λ (r : List A). r ++ drop at (sets l at ys)) (sym (take-sets-before at l ys at (omega arith)))
+      ∙ take-append-drop at (sets l at ys)

@@ -3,9 +3,8 @@
 -- Assumes nothing.
 use mathlib.Core.Path.{◌≡◌}
 use mathlib.Core.Bool.{false}
-use Prim.Native.Nat.{◌-◌, ◌≤◌}
 use Rattle.tdvf.specs.Section.{shared_broken}
-use Rattle.verdict.specs.declared.Refusal.TheVariants.{Nothing}
+use Rattle.std.specs.Prelude.{Ok}
 use Rattle.verdict.specs.Turns.{in_turn, up_to}
 use Rattle.verdict.specs.Rules.{judge}
 use Rattle.tdvf.specs.Image.{section_at}
@@ -15,14 +14,8 @@ use Rattle.launch.specs.Stages.{fields_with}
 use Rattle.launch.proofs.sections.Given as goal
 
 abbrev pub invariant-loop-j : goal.invariant-loop-j
-invariant-loop-j l = (l.j ≤ l.k) × (l.refusal ≡ l.initial.refusal) × (shared_broken (up_to (section_at l.descriptor) l.j) l.s ≡ false)
-
-abbrev pub decreases-loop-j : goal.decreases-loop-j
-decreases-loop-j l = l.k - l.j
+invariant-loop-j l = (l.verdict ≡ Ok tt) × (shared_broken (up_to (section_at l.descriptor) l.j) l.s ≡ false)
 
 abbrev pub invariant-sections : goal.invariant-sections
 invariant-sections l =
-    (l.k ≤ l.count) × (l.refusal ≡ Nothing) × (judge (in_turn (section_rules (host_with l.map 0 0 0) (fields_with l.length 0 l.descriptor)) l.k) ≡ Nothing)
-
-abbrev pub decreases-sections : goal.decreases-sections
-decreases-sections l = l.count - l.k
+    (l.verdict ≡ Ok tt) × (judge (in_turn (section_rules (host_with l.map 0 0 0) (fields_with l.length 0 l.descriptor)) l.k) ≡ Ok tt)

@@ -2,19 +2,24 @@
 -- Assumes nothing.
 use mathlib.Core.Path.{refl}
 use lib.ListN.{length}
-use Rattle.launch.proofs.Filled.{starts, few-long, ends, length-is, list-room, plan-room, pages-few, list-is, plan-is, blocks-are}
+use Rattle.launch.proofs.Filled.{starts, few-long, ends, list-room, pages-few, table-few, table-list, table-room, handoff-low, table-fits, list-is, plan-is, blocks-are}
 use Rattle.launch.proofs.write_buffers.Goals as goal
 
 -- the descriptor's place is in the image
-pub slice_bounds-descriptor-count : goal.slice_bounds-descriptor-count
-slice_bounds-descriptor-count c =
+pub slice_bounds-new-count : goal.slice_bounds-new-count
+slice_bounds-new-count c =
     let a = c.args in
     starts a.map.now c.requires.width (length a.plan.now) (length a.handoff.now) a.image.now a.layout c.requires.is
 
-pub slice_bounds-descriptor-start : goal.slice_bounds-descriptor-start
-slice_bounds-descriptor-start c =
+pub slice_bounds-new-start : goal.slice_bounds-new-start
+slice_bounds-new-start c =
     let a = c.args in
     starts a.map.now c.requires.width (length a.plan.now) (length a.handoff.now) a.image.now a.layout c.requires.is
+
+pub new-table-requires : goal.new-table-requires
+new-table-requires c =
+    let a = c.args in
+    (few-long a.map.now c.requires.width (length a.plan.now) (length a.handoff.now) a.image.now a.layout c.requires.is).1
 
 pub write_list-requires : goal.write_list-requires
 write_list-requires c =
@@ -23,17 +28,27 @@ write_list-requires c =
     let p = length a.plan.now in
     let q = length a.handoff.now in
     let e = c.requires.is in
+    let t = c.new-table in
     record {
-      whole_table = few-long a.map.now w p q a.image.now a.layout e;
+      whole_table = table-few a.map.now w p q a.image.now a.layout e t.result t.ensures;
       ends_fit = ends a.map.now w p q a.image.now a.layout e;
-      whole_list = length-is a.map.now w p q a.image.now a.layout e;
+      whole_list = table-list a.map.now w p q a.image.now a.layout e t.result t.ensures;
       room = list-room a.map.now w p q a.image.now a.layout e;
     }
 
 pub write_plan-requires : goal.write_plan-requires
 write_plan-requires c =
     let a = c.args in
-    plan-room a.map.now c.requires.width (length a.plan.now) (length a.handoff.now) a.image.now a.layout c.requires.is
+    let w = c.requires.width in
+    let p = length a.plan.now in
+    let q = length a.handoff.now in
+    let e = c.requires.is in
+    let t = c.new-table in
+    record {
+      room = table-room a.map.now w p q a.image.now a.layout e t.result t.ensures;
+      list_fits = handoff-low a.map.now w p q a.image.now a.layout e t.result t.ensures;
+      sections_fit = table-fits a.map.now w p q a.image.now a.layout e t.result t.ensures;
+    }
 
 pub count_blocks-requires : goal.count_blocks-requires
 count_blocks-requires c =
@@ -46,9 +61,11 @@ returns c =
     let w = c.requires.width in
     let p = length a.plan.now in
     let q = length a.handoff.now in
-    let e = c.requires.is in record {
-      counted = blocks-are a.map.now w p q a.image.now a.layout e a.plan.now c.write_plan.new.buffer refl c.write_plan.ensures.0
-          c.count_blocks.result c.count_blocks.ensures;
-      plan_after = plan-is a.map.now w p q a.image.now a.layout e a.plan.now c.write_plan.new.buffer refl c.write_plan.ensures.0;
-      handoff_after = list-is a.map.now w p q a.image.now a.layout e a.handoff.now c.write_list.new.buffer c.write_list.ensures.written;
+    let e = c.requires.is in
+    let t = c.new-table in
+    let plan = plan-is a.map.now w p q a.image.now a.layout e t.result t.ensures a.plan.now c.write_plan.new.buffer c.write_plan.ensures.written in
+    record {
+      counted = blocks-are a.map.now w p q a.image.now a.layout e a.plan.now c.write_plan.new.buffer refl plan c.count_blocks.result c.count_blocks.ensures;
+      plan_after = plan;
+      handoff_after = list-is a.map.now w p q a.image.now a.layout e t.result t.ensures a.handoff.now c.write_list.new.buffer c.write_list.ensures.written;
     }

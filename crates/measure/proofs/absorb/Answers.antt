@@ -3,47 +3,34 @@ use Rattle.std.proofs.Common.{◌≡◌, ℕ, ◌+◌, List, sym, ap, ◌∙◌,
 use Rattle.sha384.specs.Hash.{compressed}
 use Rattle.sha384.specs.declared.State.{State}
 use Rattle.measure.specs.Stream.{block_at, folded}
-use Rattle.measure.proofs.Blocks.{count_most, before-none, before-least, block-is}
+use Rattle.measure.proofs.Blocks.{before-none, before-least, block-is}
 use Rattle.measure.proofs.Folded.{folded-none, folded_more}
 use Rattle.measure.proofs.absorb.Goals as goal
 
 pub loop-done-init : goal.loop-done-init
 loop-done-init c =
     let a = c.args in (
-      omega arith,
       omega (arith, c.forward-c.ensures.0, before-none a.plan.now),
       c.forward-c.ensures.1,
       folded-none (block_at a.image.now a.plan.now) a.state a.from,
     )
 
-pub absorb_block-value-requires : goal.absorb_block-value-requires
-absorb_block-value-requires c =
-    let l = c.loop-done in
-    let a = c.args in record { stands = l.invariant.2; constants = c.requires.constants }
-
-pub overflow_add-c : goal.overflow_add-c
-overflow_add-c c =
-    let l = c.loop-done in
-    let a = c.args in
-    omega (arith, l.invariant.2, count_most a.plan.now l.c.record)
-
 pub forward-c-requires-in-loop-done : goal.forward-c-requires-in-loop-done
 forward-c-requires-in-loop-done c =
     let l = c.loop-done in
     let a = c.args in
-    omega (arith, l.invariant.1, c.requires.few_blocks, before-least a.plan.now l.c.record)
+    omega (arith, l.invariant.0, c.requires.few_blocks, before-least a.plan.now l.c.record)
 
 pub loop-done-preserved : goal.loop-done-preserved
 loop-done-preserved c =
     let l = c.loop-done in
     let a = c.args in
     let block = block_at a.image.now a.plan.now in (
-      omega arith,
-      omega (arith, c.forward-c-in-loop-done.ensures.0, l.invariant.1),
+      omega (arith, c.forward-c-in-loop-done.ensures.0, l.invariant.0),
       c.forward-c-in-loop-done.ensures.1,
       c.absorb_block-value.ensures
-          ∙ ap₂ (λ (s : State) (b : List ℕ). compressed s b) l.invariant.3
-          (sym (block-is a.image.now a.plan.now l.c.record l.c.block (a.from + l.done) l.invariant.1 l.invariant.2))
+          ∙ ap₂ (λ (s : State) (b : List ℕ). compressed s b) l.invariant.2
+          (sym (block-is a.image.now a.plan.now l.c.record l.c.block (a.from + l.done) l.invariant.0 l.invariant.1))
           ∙ folded_more block a.state a.from l.done,
     )
 
@@ -52,4 +39,4 @@ returns c =
     let l = c.loop-done in
     let a = c.args in
     let e : l.done ≡ a.blocks = omega arith in
-    l.invariant.3 ∙ ap (λ (q : ℕ). folded (block_at a.image.now a.plan.now) a.state a.from q) e
+    l.invariant.2 ∙ ap (λ (q : ℕ). folded (block_at a.image.now a.plan.now) a.state a.from q) e

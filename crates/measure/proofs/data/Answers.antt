@@ -15,4 +15,4 @@ returns c =
     let a = c.args in
     c.block-2.ensures
     ∙ ap (λ (b : List ℕ). compressed a.state b)
-    (data-tail a.shown.now a.at c.requires.within_page c.copy.new.buffer c.within-first.result c.within-first.ensures c.copy.ensures c.if-end-shown.false)
+    (data-tail a.shown.now a.at c.requires.within_page c.copy.new.buffer c.min-first.result c.min-first.ensures c.copy.ensures c.if-end-shown.false)

@@ -4,4 +4,4 @@ use Rattle.measure.proofs.head.Goals as goal
 
 pub returns : goal.returns
 returns c =
-    head-is c.args.tag.now c.copy.new.buffer c.put_u64.new.buffer c.args.address c.requires c.copy.ensures c.put_u64.ensures
+    head-is c.args.tag.now c.copy.new.buffer c.put_at.new.buffer c.args.address c.requires c.copy.ensures c.put_at.ensures

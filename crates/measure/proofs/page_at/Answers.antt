@@ -13,4 +13,4 @@ pub returns : goal.returns
 returns c =
     let a = c.args in
     c.page_in-2.ensures
-    ∙ page-cut a.plan.now c.copy.new.buffer a.index c.within-first.result c.within-first.ensures c.copy.ensures c.if-end-plan.false
+    ∙ page-cut a.plan.now c.copy.new.buffer a.index c.min-first.result c.min-first.ensures c.copy.ensures c.if-end-plan.false

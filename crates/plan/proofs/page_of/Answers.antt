@@ -1,7 +1,6 @@
 -- `plan::page_of` meets its contract: the fields are those of the definition, and the numbers fit them. Assumes nothing.
 use Prim.Native.Nat.{◌^◌}
 use native.Mathlib.Omega.{arith}
-use Rattle.plan.specs.Plan.{page_of}
 use Rattle.plan.proofs.Share.{source-end, length_most, offset-below}
 use Rattle.plan.proofs.page_of.Goals as goal
 
@@ -24,7 +23,3 @@ pub overflow_cast-result-2 : goal.overflow_cast-result-2
 overflow_cast-result-2 c =
     let a = c.args in
     record { fits = omega (arith, c.data_length.ensures, length_most c.source_of-source.result a.k) }
-
-pub returns : goal.returns
-unfolding page_of
-returns c = cc

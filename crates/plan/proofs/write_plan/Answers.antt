@@ -1,47 +1,38 @@
 -- `plan::write_plan`: the goals that are answered by hand. Invariants.antt says why it meets its contract. Assumes nothing.
-use mathlib.Core.Path.{◌≡◌, refl, ap, ◌∙◌}
-use Prim.Native.Nat.{ℕ, ◌*◌, ◌<◌}
+use mathlib.Core.Path.{sym, ap, ◌∙◌}
+use mathlib.Core.List.{List, [], ◌∷◌, ◌++◌, append_assoc}
 use native.Mathlib.Omega.{arith}
-use lib.Seq.{sets}
-use Rattle.verdict.specs.Turns.{up_to}
-use Rattle.tdvf.specs.Image.{section_at}
-use Rattle.tdvf.specs.Section.{page_count, pages_in_all}
-use Rattle.plan.specs.Plan.{pages, plan_bytes}
-use Rattle.plan.proofs.Records.{section-none, section-turn, count_none, count_turn, count_most}
-use borrow.Author.Rules.{rules}
+use Rattle.std.proofs.lemmas.List.Elements.{All-rest, All-same}
+use Rattle.wire.proofs.Sets.{rest_sets}
+use Rattle.tdvf.specs.declared.Section.{Section}
+use Rattle.tdvf.specs.Section.{pages_in_all}
+use Rattle.tdvf.proofs.Sums as sums
+use Rattle.plan.specs.Plan.{Fits, pages_of, plan_bytes}
+use Rattle.plan.proofs.Records.{section-none, section-turn, count_none, count_next}
 use Rattle.plan.proofs.write_plan.Goals as goal
 
-pub loop-k-init : goal.loop-k-init
-loop-k-init c =
+pub loop-s-init : goal.loop-s-init
+loop-s-init c =
     let a = c.args in
-    let f = section_at a.descriptor.now in
-    (omega arith, omega (arith, count_none f), refl, section-none a.buffer.now a.handoff f)
+    let all = c.into_iter-s-iterator.ensures.into_iter_gives ∙ c.iter-s-items.ensures in
+    record {
+      all_sections = all;
+      fit = All-same Fits _ _ all c.requires.sections_fit;
+      place = omega (arith, count_none);
+      room = omega (arith, ap pages_in_all all);
+      written = section-none a.buffer.now a.handoff;
+    }
 
-pub put_pages-next-requires : goal.put_pages-next-requires
-put_pages-next-requires c =
-    let s = c.section_at-s in
-    let k = c.loop-k.k in
-    let f = section_at c.args.descriptor.now in
-    let below : k < c.args.count = omega arith in
-    (omega (arith, ap page_count s.ensures, count_most f k c.args.count below), rw s.ensures (c.requires.3 k below), c.requires.2)
-
-pub loop-k-preserved : goal.loop-k-preserved
-loop-k-preserved c =
+pub loop-s-preserved : goal.loop-s-preserved
+loop-s-preserved c =
     let a = c.args in
-    let k = c.loop-k.k in
-    let f = section_at a.descriptor.now in (
-      omega arith,
-      omega (arith, c.put_pages-next.ensures.1, ap page_count c.section_at-s.ensures, count_turn f k),
-      search rules,
-      section-turn a.buffer.now c.loop-k.buffer c.put_pages-next.new.buffer a.handoff c.loop-k.next k f c.section_at-s.result
-          c.loop-k.invariant.3 c.loop-k.invariant.1 c.section_at-s.ensures c.put_pages-next.ensures.0,
-    )
-
-pub returns : goal.returns
-returns c =
-    let a = c.args in
-    let f = section_at a.descriptor.now in
-    let done : c.loop-k.k ≡ a.count = omega arith in (
-      c.loop-k.invariant.3 ∙ ap (λ (n : ℕ). sets a.buffer.now 0 (plan_bytes (pages a.handoff (up_to f n)))) done,
-      c.loop-k.invariant.1 ∙ ap (λ (n : ℕ). 16 * pages_in_all (up_to f n)) done,
-    )
+    let l = c.loop-s in
+    let s = c.in-Some.s in
+    let put = c.put_pages-next in record {
+      all_sections = append_assoc l.yielded (s ∷ []) c.next.new.self ∙ ap (λ (ss : List Section). l.yielded ++ ss) (sym c.in-Some.ensures.steps) ∙ l.invariant.all_sections;
+      fit = All-rest Fits s c.next.new.self l.s-iterator c.in-Some.ensures.steps l.invariant.fit;
+      place = omega (arith, put.ensures.size, sums.pages-more l.yielded s);
+      room = omega (arith, put.ensures.size, count_next s c.next.new.self, ap pages_in_all c.in-Some.ensures.steps);
+      written = section-turn a.buffer.now l.buffer _ a.handoff l.next l.yielded s l.invariant.written l.invariant.place
+          (rest_sets l.buffer _ (plan_bytes (pages_of a.handoff s)) l.next _ put.ensures.written (omega arith));
+    }

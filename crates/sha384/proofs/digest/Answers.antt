@@ -1,18 +1,17 @@
 -- `sha384::digest`: the goals that are answered by hand. Invariants.antt says why it meets its contract. Assumes nothing.
-use Rattle.std.proofs.Common.{refl, ◌∙◌, arith}
-use Rattle.sha384.specs.Constants.{H⁰}
-use Rattle.sha384.proofs.Hash.{after_none, part-more, part_end}
+use Rattle.std.proofs.Common.{◌≡◌, ◌+◌, ◌-◌, ◌*◌, ◌∙◌, add-one, arith}
+use Rattle.sha384.specs.Padding.{block}
+use Rattle.sha384.specs.Hash.{after}
+use Rattle.sha384.proofs.Hash.{digested}
 use Rattle.sha384.proofs.digest.Goals as goal
 
-pub loop-at-init : goal.loop-at-init
-loop-at-init c = (omega arith, refl, c.start-state.ensures ∙ after_none H⁰ _)
-
-pub loop-at-preserved : goal.loop-at-preserved
-loop-at-preserved c =
-    let m = c.args.message.now in
-    (omega arith, omega arith, c.block-state.ensures ∙ part-more m c.loop-at.at c.loop-at.state c.loop-at.invariant.1 c.loop-at.invariant.2)
+pub loop-n-preserved : goal.loop-n-preserved
+unfolding after block
+loop-n-preserved c =
+    let n = c.loop-n.n in
+    let size : 128 * n + 128 - 128 * n ≡ 128 = omega arith in
+    c.block-state.ensures ∙ rw (add-one n, size, c.loop-n.invariant)
 
 pub returns : goal.returns
 returns c =
-    let m = c.args.message.now in
-    c.finish.ensures ∙ part_end m c.loop-at.at c.loop-at.state c.loop-at.invariant.1 c.loop-at.invariant.2 c.loop-at.invariant.0 (omega arith)
+    c.finish.ensures ∙ digested c.args.message.now c.loop-n.state c.loop-n.n (omega arith) c.loop-n.invariant

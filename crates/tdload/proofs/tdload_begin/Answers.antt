@@ -7,7 +7,7 @@ pub returns : goal.returns
 unfolding outward_begun
 returns c =
     record {
-      begun = rw (c.outward.ensures, c.state_of.ensures) (ap outward_begun c.begin-begun.ensures.begun);
+      begun = rw (c.from.ensures, c.from-2.ensures) (ap outward_begun c.begin-begun.ensures.begun);
       plan_after = c.begin-begun.ensures.plan_after;
       handoff_after = c.begin-begun.ensures.handoff_after;
     }

@@ -7,7 +7,7 @@ pub returns : goal.returns
 returns c =
     let l = c.launch in
     record {
-      answered = c.outward.ensures ∙ ap outward l.ensures.answered;
+      answered = c.from.ensures ∙ ap outward l.ensures.answered;
       plan_after = l.ensures.plan_after;
       handoff_after = l.ensures.handoff_after;
     }

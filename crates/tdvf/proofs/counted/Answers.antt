@@ -5,29 +5,29 @@ use borrow.Author.Tests.{eq-eqb, ne_eqb}
 use Rattle.tdvf.proofs.Sums.{counted-boot, counted-other, counted-first, counted-later}
 use Rattle.tdvf.proofs.counted.Goals as goal
 
-pub returns-in-0 : goal.returns-in-0
-returns-in-0 c =
+pub returns-in-0-clause-one_more : goal.returns-in-0-clause-one_more
+returns-in-0-clause-one_more c =
     let s = c.args.s in
     λ ss e.
     counted-boot c.args.t s ss e
     (eq-eqb s.sort 0 c.in-0.is) (ne_eqb s.sort 2 (λ h. omega (arith, c.in-0.is)))
 
-pub returns-then-t-eq0 : goal.returns-then-t-eq0
-returns-then-t-eq0 c =
+pub returns-in-2-clause-one_more : goal.returns-in-2-clause-one_more
+returns-in-2-clause-one_more c =
     let s = c.args.s in
     λ ss e.
     counted-first c.args.t s ss e
     (ne_eqb s.sort 0 (λ h. omega (arith, c.in-2.is))) (eq-eqb s.sort 2 c.in-2.is) c.if-t-eq0.true
 
-pub returns-else-t-eq0 : goal.returns-else-t-eq0
-returns-else-t-eq0 c =
+pub returns-in-2-2-clause-one_more : goal.returns-in-2-2-clause-one_more
+returns-in-2-2-clause-one_more c =
     let s = c.args.s in
     λ ss e.
     counted-later c.args.t s ss e
     (ne_eqb s.sort 0 (λ h. omega (arith, c.in-2.is))) (eq-eqb s.sort 2 c.in-2.is) c.if-t-eq0.false
 
-pub returns-in_default : goal.returns-in_default
-returns-in_default c =
+pub returns-in_default-clause-one_more : goal.returns-in_default-clause-one_more
+returns-in_default-clause-one_more c =
     let s = c.args.s in
     λ ss e.
     counted-other c.args.t s ss e

@@ -1,61 +1,34 @@
 -- `handoff::write::put_pieces`: the goals that are answered by hand. Invariants.antt says why it meets its contract. Assumes nothing.
-use mathlib.Core.Path.{◌≡◌, ap, ◌∙◌}
-use Prim.Native.Nat.{ℕ, ◌+◌, ◌*◌, ◌<◌}
+use mathlib.Core.Path.{◌≡◌, sym, ap, ◌∙◌}
+use mathlib.Core.List.{List, [], ◌∷◌, ◌++◌, append_assoc}
 use native.Mathlib.Omega.{arith}
-use lib.ListN.{length}
-use lib.Seq.{sets}
-use Rattle.memory.specs.declared.Record.{Record}
-use Rattle.memory.specs.Map.{record_at, record_count, records}
-use Rattle.tdvf.specs.Image.{section_at}
-use Rattle.verdict.specs.Turns.{up_to}
-use Rattle.handoff.specs.Pieces.{pieces_of, pieces}
-use Rattle.handoff.specs.List.{piece_blocks}
-use Rattle.handoff.proofs.Count.{count_none, count-more}
-use Rattle.handoff.proofs.Written.{pieces_room, pieces-written-none, pieces-written}
+use lib.ListN.{length, length-append}
+use Rattle.wire.proofs.Sets.{part_sets}
+use Rattle.handoff.specs.declared.Piece.{Piece}
+use Rattle.handoff.specs.List.{piece_block}
+use Rattle.handoff.proofs.Size.{piece-length}
+use Rattle.handoff.proofs.Written.{blocks-none, pieces-turn}
 use Rattle.handoff.proofs.write.put_pieces.Goals as goal
 
-pub loop-i-init : goal.loop-i-init
-loop-i-init c =
+pub loop-p-init : goal.loop-p-init
+loop-p-init c =
     let a = c.args in
-    let ss = up_to (section_at a.descriptor.now) a.count in
-    (omega arith, omega arith, omega (arith, count_none ss a.map.now), pieces-written-none ss (record_at a.map.now) a.buffer.now a.at)
-
-pub put_record-next-requires : goal.put_record-next-requires
-unfolding records
-put_record-next-requires c =
-    let r = c.record_at-r in
-    let l = c.loop-i in
-    let a = c.args in
-    let ss = up_to (section_at a.descriptor.now) a.count in
-    let h : l.i < record_count a.map.now = omega arith in
     record {
-      whole_table = c.requires.whole_table;
-      fits = rw r.ensures (c.requires.ends_fit.low l.i h);
-      room = omega (arith, ap (λ (x : Record). length (pieces_of ss x)) r.ensures, pieces_room ss (record_at a.map.now) l.i (record_count a.map.now) h);
+      all_pieces = c.into_iter-p-iterator.ensures.into_iter_gives;
+      place = omega arith;
+      written = blocks-none a.part.now 0;
     }
 
-pub loop-i-preserved : goal.loop-i-preserved
-loop-i-preserved c =
-    let put = c.put_record-next in
-    let r = c.record_at-r in
-    let l = c.loop-i in
-    let a = c.args in
-    let ss = up_to (section_at a.descriptor.now) a.count in (
-      omega arith,
-      omega arith,
-      omega (arith, put.ensures.next_place, ap (λ (x : Record). length (pieces_of ss x)) r.ensures, count-more ss a.map.now l.i),
-      pieces-written ss (record_at a.map.now) a.buffer.now l.buffer _ a.at l.next l.i r.result r.ensures l.invariant.2 l.invariant.3 put.ensures.written,
-    )
-
-pub returns : goal.returns
-unfolding records
-returns c =
-    let l = c.loop-i in
-    let a = c.args in
-    let ss = up_to (section_at a.descriptor.now) a.count in
-    let f = record_at a.map.now in
-    let e : l.i ≡ record_count a.map.now = omega arith in
+pub loop-p-preserved : goal.loop-p-preserved
+loop-p-preserved c =
+    let l = c.loop-p in
+    let p = c.in-Some.p in
+    let rest : List Piece = c.next.new.self in
+    let all : l.yielded ++ (p ∷ rest) ≡ c.args.pieces = ap (λ (ps : List Piece). l.yielded ++ ps) (sym c.in-Some.ensures.steps) ∙ l.invariant.all_pieces in
     record {
-      written = l.invariant.3 ∙ ap (λ (n : ℕ). sets a.buffer.now a.at (piece_blocks (pieces ss (up_to f n)))) e;
-      next_place = l.invariant.2 ∙ ap (λ (n : ℕ). a.at + 48 * length (pieces ss (up_to f n))) e;
+      all_pieces = append_assoc l.yielded (p ∷ []) rest ∙ all;
+      place = omega (arith, length-append l.yielded (p ∷ []));
+      written = pieces-turn c.args.part.now l.part _ l.next l.yielded p l.invariant.place l.invariant.written
+          (part_sets l.part _ (piece_block p) l.next _ c.put_piece.ensures (omega (arith, piece-length p))
+          (omega (arith, ap length all, length-append l.yielded (p ∷ rest))));
     }

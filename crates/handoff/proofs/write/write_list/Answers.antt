@@ -1,48 +1,33 @@
 -- `handoff::write::write_list` meets its contract: the first block, the pieces' blocks and the last one are the list's bytes, and as long as the
--- caller says, so that each has room. Assumes nothing.
+-- caller says. Assumes nothing.
+use mathlib.Core.Path.{◌≡◌, sym, ap, ◌∙◌}
+use mathlib.Core.List.{List}
+use Prim.Native.Nat.{◌+◌, ◌*◌}
 use native.Mathlib.Omega.{arith}
-use Rattle.memory.specs.Map.{records}
-use Rattle.tdvf.specs.Image.{section_at}
-use Rattle.verdict.specs.Turns.{up_to}
-use Rattle.handoff.specs.Pieces.{pieces}
+use lib.ListN.{length}
+use lib.Seq.{sets}
+use Rattle.wire.proofs.Sets.{part_sets, rest_sets}
+use Rattle.handoff.specs.declared.Piece.{Piece}
+use Rattle.handoff.specs.List.{first_block, last_block, piece_blocks, list_length, list_bytes}
+use Rattle.handoff.proofs.Size.{first-length, last-length}
 use Rattle.handoff.proofs.Written.{list-room, list-is}
 use Rattle.handoff.proofs.write.write_list.Goals as goal
-
-pub put_first-requires : goal.put_first-requires
-put_first-requires c =
-    let a = c.args in
-    let ps = pieces (up_to (section_at a.descriptor.now) a.count) (records a.map.now) in
-    omega (arith, list-room ps a.length c.requires.whole_list)
-
-pub put_pieces-next-requires : goal.put_pieces-next-requires
-put_pieces-next-requires c =
-    let a = c.args in
-    let ps = pieces (up_to (section_at a.descriptor.now) a.count) (records a.map.now) in
-    record {
-      whole_table = c.requires.whole_table;
-      ends_fit = c.requires.ends_fit;
-      room = omega (arith, list-room ps a.length c.requires.whole_list);
-    }
-
-pub put_last-requires : goal.put_last-requires
-put_last-requires c =
-    let put = c.put_pieces-next in
-    let a = c.args in
-    let ps = pieces (up_to (section_at a.descriptor.now) a.count) (records a.map.now) in
-    omega (arith, put.ensures.next_place, list-room ps a.length c.requires.whole_list)
-
-pub overflow_add-result : goal.overflow_add-result
-overflow_add-result c =
-    let put = c.put_pieces-next in
-    let a = c.args in
-    let ps = pieces (up_to (section_at a.descriptor.now) a.count) (records a.map.now) in
-    omega (arith, put.ensures.next_place, list-room ps a.length c.requires.whole_list)
 
 pub returns : goal.returns
 returns c =
     let a = c.args in
-    let ps = pieces (up_to (section_at a.descriptor.now) a.count) (records a.map.now) in record {
-      written = list-is ps a.length c.requires.whole_list _ _ _ _ a.address c.put_pieces-next.result c.put_first.ensures c.put_pieces-next.ensures.written
-          c.put_pieces-next.ensures.next_place c.put_last.ensures;
-      next_place = omega (arith, c.put_pieces-next.ensures.next_place, list-room ps a.length c.requires.whole_list);
+    let put = c.put_pieces-next in
+    let ps = c.new.result in
+    let past = a.address + a.length in
+    let whole : a.length ≡ list_length ps = c.requires.whole_list ∙ ap list_length (sym c.new.ensures) in
+    let room = list-room ps a.length whole in
+    let next : 56 + put.result ≡ 56 + 48 * length ps = omega (arith, put.ensures.size) in
+    let total : 56 + put.result + 8 ≡ a.length = omega (arith, next, room) in
+    let first = part_sets a.buffer.now _ (first_block past) 0 56 c.put_first.ensures (sym (first-length past)) (omega (arith, room)) in
+    let blocks = rest_sets _ _ (piece_blocks ps) 56 _ put.ensures.written (omega arith) in
+    let last = part_sets _ _ last_block (56 + put.result) _ c.put_last.ensures (omega (arith, last-length)) (omega arith) in
+    record {
+      written = list-is ps a.length whole a.buffer.now _ _ _ a.address (56 + put.result) first blocks next last
+          ∙ ap (λ (qs : List Piece). sets a.buffer.now 0 (list_bytes a.address qs)) c.new.ensures;
+      next_place = total;
     }

@@ -1,7 +1,0 @@
--- `listing::main` meets its contract: the answer of a launch names at most 4,096 pages, which is what printing it asks.
--- Assumes nothing.
-use Rattle.launch.proofs.Few.{pages-few}
-use Rattle.listing.proofs.main.Goals as goal
-
-pub print_answer-requires : goal.print_answer-requires
-print_answer-requires c = pages-few _ _ _ c.launch-answer.ensures.answered
