@@ -1,7 +1,7 @@
 -- What an accepted launch hands its writers, and that what they write and measure is the launch's page list, HOB list and measurement.
 -- Assumes nothing.
 use mathlib.Core.Path.{◌≡◌, refl, sym, ap, ap₂, subst, ◌∙◌}
-use mathlib.Core.List.{List, ◌++◌}
+use mathlib.Core.List.{List, [], ◌∷◌, ◌++◌}
 use Prim.Native.Nat.{ℕ, zero, suc, ◌+◌, ◌-◌, ◌*◌, ◌%◌, ◌^◌, ◌≤◌, ◌<◌}
 use native.Mathlib.Omega.{arith}
 use lib.ListN.{length, take, drop, replicate, get_or}
@@ -11,7 +11,7 @@ use Rattle.wire.proofs.Sets.{sets-front}
 use Rattle.std.specs.Prelude.{Ok, None}
 use Rattle.std.specs.List.{All}
 use Rattle.verdict.specs.Turns.{up_to}
-use Rattle.verdict.proofs.Turns.{length-up_to, get_or-up_to}
+use Rattle.verdict.proofs.Turns.{turn-add, length-up_to, get_or-up_to}
 use Rattle.verdict.proofs.Each.{Each, each-up_to}
 use Rattle.verdict.proofs.Rules.{and-found}
 use Rattle.memory.specs.Map.{records}
@@ -20,6 +20,7 @@ use Rattle.tdvf.specs.Image.{Fields, fields_of, section_count, section_at, secti
 use Rattle.tdvf.specs.Section.{pages_in_all, handoff_section}
 use Rattle.tdvf.proofs.Descriptor.{at, located-found}
 use Rattle.tdvf.proofs.Kept.{Attributes}
+use Rattle.tdvf.proofs.Sums.{pages-append}
 use Rattle.plan.specs.declared.Page.{Page}
 use Rattle.plan.specs.Plan.{Fits, page_of, pages, plan_bytes}
 use Rattle.plan.proofs.Records.{length-plan, length-pages}
@@ -62,6 +63,14 @@ page-volume handoff s k a m = by_type s.sort a.other (eqb-true (s.attributes % 2
     by_type zero h one = omega arith
     by_type (suc zero) h one = omega arith
     by_type (suc (suc t)) h one = absurd (omega (arith, h (omega arith)))
+
+-- the first sections have no more pages than all
+pages-first : (f : ℕ → Section) (n m : ℕ) → n ≤ m → pages_in_all (up_to f n) ≤ pages_in_all (up_to f m)
+pages-first f n m h =
+    let e : m ≡ n + (m - n) = omega arith in
+    let split : pages_in_all (up_to f m) ≡ pages_in_all (up_to f n) + pages_in_all (up_to (λ i. f (n + i)) (m - n)) =
+    ap (λ (k : ℕ). pages_in_all (up_to f k)) e ∙ ap pages_in_all (turn-add (λ i. f i ∷ []) n (m - n)) ∙ pages-append _ _ in
+    omega (arith, split)
 
 module _ (h : Host) (f : Fields) (kept : Keeps h f) where
   list-fits : handoff_length h f ≤ 2 ^ 32
@@ -139,6 +148,9 @@ module _ (m : List ℕ) (w p q : ℕ) (image : List ℕ) (l : Layout) (e : check
   pub few-long : (l.count ≤ 32) × (16 + 32 * l.count ≤ length part)
   few-long = (part-few image l.offset l.count here-is, part-long image l.offset l.count here-is)
 
+  pub part_long : 16 + 32 * l.count ≤ length part
+  part_long = few-long.1
+
   sections-are : up_to (section_at part) l.count ≡ sections f
   sections-are = part-sections image l.offset l.count here-is
 
@@ -151,6 +163,9 @@ module _ (m : List ℕ) (w p q : ℕ) (image : List ℕ) (l : Layout) (e : check
 
   pub pages-few : l.pages ≤ 2 ^ 32
   pages-few = omega (arith, at-pages, pages-counted host f kept, (last-kept host f kept).pages)
+
+  pub handoff-low : l.handoff ≤ 2 ^ 32
+  handoff-low = omega (arith, at-handoff, list-fits host f kept)
 
   -- ---- the table that the code makes of that part
 
@@ -168,19 +183,6 @@ module _ (m : List ℕ) (w p q : ℕ) (image : List ℕ) (l : Layout) (e : check
     unfolding handoff_length
     table-list = at-handoff ∙ ap (λ (ss : List Section). list_length (pieces ss (records m))) (sym table-is)
 
-    pub table-room : 16 * pages_in_all t ≤ p
-    table-room = omega (arith, ap pages_in_all table-is, (last-kept host f kept).pages, (first-kept host f kept.first).plan)
-
-    pub handoff-low : l.handoff ≤ 2 ^ 32
-    handoff-low = omega (arith, at-handoff, list-fits host f kept)
-
-    pub table-fits : All Fits t
-    table-fits k d b =
-        let c : k < l.count = omega (arith, ap length is, length-up_to (section_at part) l.count) in
-        let here : get_or t k d ≡ section_at f.descriptor k =
-        ap (λ (ss : List Section). get_or ss k d) is ∙ get_or-up_to (section_at part) l.count k d c ∙ part-section image l.offset l.count here-is k c in
-        subst Fits (sym here) (section-fits host f k kept (omega (arith, at_count)))
-
     -- what is written of it, with a host of which the map alone is known
     pub list-is : (b c : List ℕ) → c ≡ sets b 0 (list_bytes l.address (pieces t (records m))) → c ≡ sets b 0 (handoff_list bare f)
     unfolding handoff_list
@@ -189,6 +191,19 @@ module _ (m : List ℕ) (w p q : ℕ) (image : List ℕ) (l : Layout) (e : check
     pub plan-is : (b c : List ℕ) → c ≡ sets b 0 (plan_bytes (pages l.handoff t)) → c ≡ sets b 0 (plan_bytes (page_list bare f))
     unfolding page_list handoff_length
     plan-is b c z = z ∙ ap₂ (λ (n : ℕ) (ss : List Section). sets b 0 (plan_bytes (pages n ss))) at-handoff table-is
+
+  -- a table of the first of them has room and fits as well, so that what is refused of one that is handed over by mistake is the plan alone
+  module _ (t : List Section) (n : ℕ) (is : t ≡ up_to (section_at part) n) (most : n ≤ l.count) where
+    pub table-room : 16 * pages_in_all t ≤ p
+    table-room =
+        omega (arith, ap pages_in_all is, pages-first (section_at part) n l.count most, ap pages_in_all sections-are, (last-kept host f kept).pages, (first-kept host f kept.first).plan)
+
+    pub table-fits : All Fits t
+    table-fits k d b =
+        let c : k < n = omega (arith, ap length is, length-up_to (section_at part) n) in
+        let here : get_or t k d ≡ section_at f.descriptor k =
+        ap (λ (ss : List Section). get_or ss k d) is ∙ get_or-up_to (section_at part) n k d c ∙ part-section image l.offset l.count here-is k (omega arith) in
+        subst Fits (sym here) (section-fits host f k kept (omega (arith, at_count)))
 
   -- ---- what was written
 
@@ -208,10 +223,10 @@ module _ (m : List ℕ) (w p q : ℕ) (image : List ℕ) (l : Layout) (e : check
     behind = z ∙ ap (λ (r : List Page). sets b 0 (plan_bytes r)) same ∙ sets-front b (plan_bytes ps) (omega (arith, plan-long host f kept))
 
     -- what is counted and digested of it is the accepted answer's
-    pub answer-is : (n : ℕ) (digest : List ℕ) → n ≡ before c l.pages → digest ≡ digest_of image c n
+    pub answer-made : (n : ℕ) (digest : List ℕ) → n ≡ before c l.pages → digest ≡ digest_of image c n
         → record { refusal = None; pages = l.pages; handoff = l.handoff; blocks = n; measurement = digest } ≡ accepted_answer bare image
     unfolding accepted_answer stream_of handoff_list handoff_length page_list
-    answer-is n digest k g =
+    answer-made n digest k g =
         let blocks : n ≡ block_count ps =
         k ∙ ap₂ before behind at-pages ∙ plan-number ps rest (pages-sized-all host f kept) (pages-volume host f kept) in
         let measured : digest ≡ sha384 (stream image (handoff_list host f) ps) =
@@ -221,6 +236,12 @@ module _ (m : List ℕ) (w p q : ℕ) (image : List ℕ) (l : Layout) (e : check
     pub blocks-are : (n : ℕ) → n ≡ before c l.pages → n ≡ block_count (page_list bare f)
     blocks-are n k =
         k ∙ ap₂ before behind at-pages ∙ plan-number ps rest (pages-sized-all host f kept) (pages-volume host f kept) ∙ ap block_count (sym same)
+
+  -- the same of what the writer was asked for: the pages of the part's sections
+  pub answer-is : (b c : List ℕ) → length b ≡ p → c ≡ sets b 0 (plan_bytes (pages l.handoff (up_to (section_at part) l.count))) → (n : ℕ) (digest : List ℕ)
+      → n ≡ before c l.pages → digest ≡ digest_of image c n
+      → record { refusal = None; pages = l.pages; handoff = l.handoff; blocks = n; measurement = digest } ≡ accepted_answer bare image
+  answer-is b c room z = answer-made b c room (plan-is (up_to (section_at part) l.count) refl b c z)
 
   -- the answer, with zeros in the measurement's place
   pub unmeasured-is : (n : ℕ) → n ≡ block_count (page_list bare f) → answer_of l n (replicate 48 0) ≡ unmeasured (accepted_answer bare image)

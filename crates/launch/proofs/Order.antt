@@ -153,11 +153,16 @@ pub first-passed : (image m : List ℕ) (w p q : ℕ) {r : Result Width Refusal}
     → judge (first_rules (host_with m w p q) (fields_of image)) ≡ Ok tt
 first-passed image m w p q e k = sym (first-is image m w p q _ e) ∙ ap judged k
 
-pub map_is : (w : Width) (n : ℕ) → bits w ≡ n → (m : List ℕ) (t : Result (Unit {0}) Fault) → t ≡ first_fault (map_tried (bits w) m)
+pub map_is : (w : ℕ) (m : List ℕ) (t : Result (Unit {0}) Fault) (r : Verdict) → t ≡ first_fault (map_tried w m) → r ≡ fault_verdict t
+    → r ≡ judge (map_rules w m)
+map_is w m t r e d = d ∙ ap fault_verdict e ∙ map-judged w m
+
+-- with the width that the first stage answered
+pub map-answered : (w : Width) (n : ℕ) → bits w ≡ n → (m : List ℕ) (t : Result (Unit {0}) Fault) → t ≡ first_fault (map_tried (bits w) m)
     → fault_verdict t ≡ judge (map_rules n m)
-map_is w n b m t e = ap fault_verdict e ∙ map-judged (bits w) m ∙ ap (λ (k : ℕ). judge (map_rules k m)) b
+map-answered w n b m t e = map_is n m t (fault_verdict t) (e ∙ ap (λ (k : ℕ). first_fault (map_tried k m)) b) refl
 
 -- where the second answers no fault, the map's rules are kept
 pub map-passed : (w : Width) (n : ℕ) → bits w ≡ n → (m : List ℕ) {t : Result (Unit {0}) Fault} → t ≡ first_fault (map_tried (bits w) m) → t ≡ Ok tt
     → judge (map_rules n m) ≡ Ok tt
-map-passed w n b m e k = sym (map_is w n b m _ e) ∙ ap fault_verdict k
+map-passed w n b m e k = sym (map-answered w n b m _ e) ∙ ap fault_verdict k

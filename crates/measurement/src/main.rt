@@ -8,21 +8,26 @@
 use files::{print_measurement, print_refusal, with_inputs};
 use launch::Answer;
 use std::io;
+use std::io::Write;
 
-fn print_answer<R: Print>(rt: &R, answer: Answer) -> io::Result<()> {
+fn print_answer<W: Write>(out: &mut W, answer: Answer) -> io::Result<()> {
     if answer.refusal.is_some() {
-        return print_refusal(rt, answer.refusal);
+        return print_refusal(out, answer.refusal);
     }
     let measurement = answer.measurement;
-    print_measurement(rt, &measurement)
+    print_measurement(out, &measurement)
 }
 
-fn print_launch<R: Print>(rt: &R, image: &[u8], map: &[u8]) -> io::Result<()> {
+fn print_launch<W: Write>(out: &mut W, image: &[u8], map: &[u8]) -> io::Result<()> {
     let mut plan = [0u8; 65536];
     let mut handoff = [0u8; 8192];
-    print_answer(rt, launch::launch(image, map, 48, &mut plan, &mut handoff))
+    print_answer(out, launch::launch(image, map, 48, &mut plan, &mut handoff))
 }
 
 fn main(rt: HostRuntime) -> io::Result<()> {
-    with_inputs(&rt, |image, map| print_launch(&rt, image, map))
+    with_inputs(
+        &rt,
+        &mut io::writer(&rt),
+        |image, map| print_launch(&mut io::writer(&rt), image, map),
+    )
 }

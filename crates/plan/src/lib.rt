@@ -110,8 +110,8 @@ pub fn page_of(s: Section, handoff: u64, k: u64) -> Page
 
 // ---- the records
 
-// Writes a page's record over the 16 bytes of one.
-pub fn put_page(part: &mut [u8], p: Page)
+// Writes a page's fields over the 16 bytes of a record.
+fn put_fields(part: &mut [u8], p: Page)
     requires { length part.old ≡ 16 }
     ensures { part.new ≡ page_bytes p }
 {
@@ -120,6 +120,14 @@ pub fn put_page(part: &mut [u8], p: Page)
     wire::put(&mut part[12..14], p.length as u64);
     wire::put(&mut part[14..15], p.sort as u64);
     wire::put(&mut part[15..16], p.measured as u64);
+}
+
+// Writes a page's record at the start of a part.
+pub fn put_page(part: &mut [u8], p: Page)
+    requires { 16 ≤ length part.old }
+    ensures { part.new ≡ sets part.old 0 (page_bytes p) }
+{
+    put_fields(&mut part[..16], p);
 }
 
 // Writes the records of a section's pages at the start of a part, and answers how long they are.
@@ -132,7 +140,7 @@ pub fn put_pages(part: &mut [u8], s: Section, handoff: u64) -> usize
 {
     let mut next = 0;
     for k in 0..s.size / 4096 {
-        put_page(&mut part[next..next + 16], page_of(s, handoff, k));
+        put_page(&mut part[next..], page_of(s, handoff, k));
         next += 16;
     }
     next

@@ -3,13 +3,17 @@ use mathlib.Core.Path.{◌≡◌, refl, sym, ap, subst, ◌∙◌}
 use mathlib.Core.Bool.{Bool, true, false}
 use mathlib.Core.Logic.{◌⊎◌, inl, inr}
 use mathlib.Core.List.{List, [], ◌∷◌, ◌++◌, Memᴰ}
-use Prim.Native.Nat.{ℕ, ◌+◌, ◌/◌, ◌≤◌}
+use Prim.Native.Nat.{ℕ, zero, suc, ◌+◌, ◌*◌, ◌/◌, ◌^◌, ◌≤◌}
 use native.Mathlib.Omega.{arith}
 use native.Mathlib.Numerals.{add-one}
 use lib.ListN.{length}
+use Rattle.wire.specs.Number.{Bytes}
+use Rattle.wire.proofs.Number.{number_at-below}
+use Rattle.verdict.specs.Turns.{in_turn, up_to}
 use Rattle.verdict.proofs.Rules.{either}
 use Rattle.tdvf.specs.declared.Section.{Section}
 use Rattle.tdvf.specs.declared.Totals.{Totals}
+use Rattle.tdvf.specs.Image.{section_at}
 use Rattle.tdvf.specs.Section.{is_boot, is_handoff, how_many, page_count, pages_in_all, handoff_section, totals_of}
 
 -- ---- how many are so
@@ -59,6 +63,13 @@ pages-append (x ∷ xs) ys = omega (arith, pages-append xs ys)
 pub pages-more : (ss : List Section) (s : Section) → pages_in_all (ss ++ (s ∷ [])) ≡ pages_in_all ss + page_count s
 unfolding pages_in_all
 pages-more ss s = omega (arith, pages-append ss (s ∷ []))
+
+-- a size of 64 bits is fewer than 2 ^ 52 pages
+pub pages-few : (d : List ℕ) (n : ℕ) → Bytes d → pages_in_all (up_to (section_at d) n) ≤ n * 2 ^ 52
+unfolding in_turn pages_in_all section_at
+pages-few d zero b = omega arith
+pages-few d (suc n) b =
+    omega (arith, pages-more (up_to (section_at d) n) (section_at d n), pages-few d n b, number_at-below 8 d (16 + 32 * n + 16) b)
 
 -- ---- the TD HOB section
 

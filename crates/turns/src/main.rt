@@ -9,6 +9,7 @@ ghost use Rattle.std.specs.Prelude.{◌≤◌, length};
 use files::{print_line, print_measurement, print_refusal, with_inputs};
 use measure::{Progress, turn};
 use std::io;
+use std::io::Write;
 
 // What turns to the end came to.
 #[derive(Clone, Copy)]
@@ -42,40 +43,44 @@ fn finish(start: Progress, image: &[u8], plan: &[u8], quota: u64) -> Run {
     }
 }
 
-fn print_labelled<R: Print>(rt: &R, label: &[u8], value: u64) -> io::Result<()>
+fn print_labelled<W: Write>(out: &mut W, label: &[u8], value: u64) -> io::Result<()>
     requires { length label.now ≤ 8 }
 {
     let mut line = [0u8; 28];
     let count = text::put_labelled(&mut line, 0, label, value);
-    print_line(rt, &line[..count])
+    print_line(out, &line[..count])
 }
 
-fn print_run<R: Print>(rt: &R, quota: u64, run: Run) -> io::Result<()> {
-    print_labelled(rt, b"quota ", quota)?;
-    print_labelled(rt, b" turns ", run.turns)?;
-    print_labelled(rt, b" blocks ", run.blocks)?;
-    print_line(rt, b"\n")?;
+fn print_run<W: Write>(out: &mut W, quota: u64, run: Run) -> io::Result<()> {
+    print_labelled(out, b"quota ", quota)?;
+    print_labelled(out, b" turns ", run.turns)?;
+    print_labelled(out, b" blocks ", run.blocks)?;
+    print_line(out, b"\n")?;
     let measurement = run.measurement;
-    print_measurement(rt, &measurement)
+    print_measurement(out, &measurement)
 }
 
-fn print_runs<R: Print>(rt: &R, start: Progress, image: &[u8], plan: &[u8]) -> io::Result<()> {
+fn print_runs<W: Write>(out: &mut W, start: Progress, image: &[u8], plan: &[u8]) -> io::Result<()> {
     if start.refusal.is_some() {
-        return print_refusal(rt, start.refusal);
+        return print_refusal(out, start.refusal);
     }
     for quota in [1, 5, 1000] {
-        print_run(rt, quota, finish(start, image, plan, quota))?;
+        print_run(out, quota, finish(start, image, plan, quota))?;
     }
     Ok(())
 }
 
-fn print_launch<R: Print>(rt: &R, image: &[u8], map: &[u8]) -> io::Result<()> {
+fn print_launch<W: Write>(out: &mut W, image: &[u8], map: &[u8]) -> io::Result<()> {
     let mut plan = [0u8; 65536];
     let mut handoff = [0u8; 8192];
     let begun = launch::begin(image, map, 48, &mut plan, &mut handoff);
-    print_runs(rt, begun.progress, image, &plan)
+    print_runs(out, begun.progress, image, &plan)
 }
 
 fn main(rt: HostRuntime) -> io::Result<()> {
-    with_inputs(&rt, |image, map| print_launch(&rt, image, map))
+    with_inputs(
+        &rt,
+        &mut io::writer(&rt),
+        |image, map| print_launch(&mut io::writer(&rt), image, map),
+    )
 }

@@ -2,13 +2,13 @@
 -- Assumes nothing.
 use mathlib.Core.Path.{◌≡◌, refl, sym, ap, ◌∙◌}
 use Prim.Native.Nat.{ℕ, zero, suc, ◌+◌, ◌-◌, ◌≤◌, ◌<◌}
-use native.Mathlib.Nat.{add-zero, add-suc, suc-add, zero-add}
+use native.Mathlib.Nat.{add-zero, add-suc, suc-add, zero-add, sub-zero, suc-sub-suc, zero-sub}
 use native.Mathlib.Numerals.{add-one}
 use native.Mathlib.Omega.{arith}
 use mathlib.Core.List.{List, [], ◌∷◌, ◌++◌, append_assoc, append-nil}
 use borrow.Rule.Slice.PartMut.{put_mid}
 use lib.ListN.{length, get_or, set, take, drop, replicate, length-set, length-append, length-drop, length-replicate, replicate-append-replicate, take-append-drop}
-use Rattle.std.proofs.lemmas.List.{drop-replicate, take_all, drop_all}
+use Rattle.std.proofs.lemmas.List.{take_all, drop_all}
 use lib.Seq.{sets, sets-eq, take-suc, length-take-le, take-set-le, take-set-lt, drop-set-lt, drop-set-add, get_or-set_same, get_or-set_other, set_comm, take-append_seam, drop-drop}
 
 -- the index of the next element, counted from i or from the element behind i
@@ -110,9 +110,13 @@ module _ {ℓ} {A : Type ℓ} where
       ∙ ap (λ (r : List A). take (length ys) r) (drop-sets-inside i l ys 0 ∙ sets-front (drop i l) ys (omega (arith, length-drop i l)))
       ∙ take-append_seam ys (drop (length ys) (drop i l))
 
--- ---- in a list of one element over and over, and in a part
+  -- ---- in a list of one element over and over
 
-module _ {A : Type 0} where
+  pub drop-replicate : (k n : ℕ) (a : A) → drop k (replicate n a) ≡ replicate (n - k) a
+  drop-replicate zero n a = ap (λ (m : ℕ). replicate m a) (sym (sub-zero n))
+  drop-replicate (suc k) zero a = ap (λ (m : ℕ). replicate m a) (sym (zero-sub (suc k)))
+  drop-replicate (suc k) (suc n) a = drop-replicate k n a ∙ ap (λ (m : ℕ). replicate m a) (sym (suc-sub-suc n k))
+
   pub sets-replicate : (n : ℕ) (a : A) (ys : List A) → length ys ≤ n → sets (replicate n a) 0 ys ≡ ys ++ replicate (n - length ys) a
   sets-replicate n a ys h =
       sets-front (replicate n a) ys (omega (arith, length-replicate n a))
@@ -128,6 +132,9 @@ module _ {A : Type 0} where
       ∙ sym (append_assoc ys (replicate k a) (replicate (n - length (ys ++ replicate k a)) a))
       ∙ sym (sets-replicate n a (ys ++ replicate k a) (omega arith))
 
+-- ---- in a part
+
+module _ {A : Type 0} where
   -- a write to a part, as `buffer[at..end].copy_from_slice(bytes)`: std says what it leaves by the three parts
   pub part_sets : (l xs ys : List A) (at k : ℕ) → xs ≡ ys → k ≡ length ys → at + k ≤ length l → put_mid at k l xs ≡ sets l at ys
   part_sets l xs ys at k same size h =

@@ -9,7 +9,7 @@ use Rattle.tdvf.specs.Image.{Fields, fields_of}
 use Rattle.tdvf.proofs.Descriptor.{fields-length, located-missed}
 use Rattle.launch.specs.Host.{Host, host_with}
 use Rattle.launch.specs.Stages.{judged}
-use Rattle.launch.proofs.Order.{first-is, first-passed, first-kept, map_is, map-passed, ends-fit, checked_refused, checked-laid, part-few, part-long, part-start, part_count, part-laid, part-kept}
+use Rattle.launch.proofs.Order.{first-is, first-passed, first-kept, map-answered, map-passed, ends-fit, checked_refused, checked-laid, part-few, part-long, part-start, part_count, part-laid, part-kept}
 use Rattle.launch.proofs.Keeps.{stops_first, stops-map, stops-descriptor}
 use Rattle.launch.proofs.check.Goals as goal
 
@@ -28,7 +28,7 @@ returns-in_err-check c =
     let h : Host = host_with a.map.now a.width a.plan a.handoff in
     let f : Fields = fields_of a.image.now in
     let one = first-passed a.image.now a.map.now a.width a.plan a.handoff c.first.ensures.judged c.in_ok-width.was in
-    let two = map_is c.in_ok-width.width a.width (rw c.in_ok-width.was at c.first.ensures.width) a.map.now c.check.result c.check.ensures in
+    let two = map-answered c.in_ok-width.width a.width (rw c.in_ok-width.was at c.first.ensures.width) a.map.now c.check.result c.check.ensures in
     let p = err_from_is_err_and c.from_residual-in_err-check.result c.from_residual-in_err-check.ensures.1 in
     rw (p.1, p.2) (sym (checked_refused h f _ (stops-map h f one _ (sym two ∙ ap fault_verdict c.in_err-check.was))))
 

@@ -3,11 +3,11 @@ use mathlib.Core.Path.{◌≡◌, ap, ◌∙◌}
 use Prim.Native.Nat.{ℕ}
 use native.Mathlib.Omega.{arith}
 use lib.Seq.{sets}
-use Rattle.wire.proofs.Sets.{part_sets}
+use Rattle.wire.proofs.Sets.{rest_sets}
 use Rattle.verdict.specs.Turns.{up_to}
 use Rattle.tdvf.specs.Section.{page_count}
 use Rattle.plan.specs.Plan.{page_of, pages_of, page_bytes, plan_bytes}
-use Rattle.plan.proofs.Records.{length-page, page-none, page-turn}
+use Rattle.plan.proofs.Records.{page-none, page-turn}
 use Rattle.plan.proofs.put_pages.Goals as goal
 
 pub loop-k-init : goal.loop-k-init
@@ -23,7 +23,7 @@ loop-k-preserved c =
     record {
       place = omega arith;
       written = page-turn a.part.now l.part _ 0 l.next l.k (page_of a.handoff a.s) p l.invariant.written (omega arith) c.page_of.ensures
-          (part_sets l.part _ (page_bytes p) l.next _ c.put_page.ensures (omega (arith, length-page p)) (omega arith));
+          (rest_sets l.part _ (page_bytes p) l.next _ c.put_page.ensures (omega arith));
     }
 
 pub returns-clause-written : goal.returns-clause-written

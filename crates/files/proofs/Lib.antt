@@ -1,0 +1,2 @@
+-- The part of a buffer that a line was written into. Assumes nothing.
+pub mod Line

@@ -1,0 +1,2 @@
+-- What a program does with its two inputs. Assumes nothing.
+pub mod Inputs
