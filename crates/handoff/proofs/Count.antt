@@ -79,3 +79,14 @@ pub pieces-few : (ss : List Section) (rs : List Record) → length ss ≤ 32 →
 unfolding pieces
 pieces-few ss [] h = omega arith
 pieces-few ss (r ∷ rs) h = omega (arith, length-append (pieces_of ss r) (pieces ss rs), of-most ss r, pieces-few ss rs h)
+
+-- the records from a place on give no more pieces than all
+pub fewer : (ss : List Section) (rs : List Record) (k : ℕ) → length (pieces ss (drop k rs)) ≤ length (pieces ss rs)
+unfolding pieces
+fewer ss rs zero = omega arith
+fewer ss [] (suc k) = omega arith
+fewer ss (r ∷ rs) (suc k) = omega (arith, length-append (pieces_of ss r) (pieces ss rs), fewer ss rs k)
+
+pub fewer-behind : (ps : List Piece) (ss : List Section) (rs : List Record) (k : ℕ) → ps ≡ []
+    → length (ps ++ pieces ss (drop k rs)) ≤ length (pieces ss rs)
+fewer-behind ps ss rs k e = omega (arith, length-append ps (pieces ss (drop k rs)), ap length e, fewer ss rs k)

@@ -2,7 +2,7 @@
 -- one, and the list. Assumes nothing.
 use mathlib.Core.Path.{◌≡◌, refl, sym, ap, ◌∙◌}
 use mathlib.Core.List.{List, [], ◌∷◌, ◌++◌, append_assoc, append-nil}
-use Prim.Native.Nat.{ℕ, ◌+◌, ◌*◌}
+use Prim.Native.Nat.{ℕ, ◌+◌, ◌*◌, ◌≤◌}
 use native.Mathlib.Omega.{arith}
 use lib.ListN.{length, length-append, replicate}
 use lib.Seq.{sets}
@@ -63,12 +63,28 @@ pieces-turn l b b' next ps p n e is =
     ∙ sets_then l (piece_blocks ps) (piece_block p) 0 next (omega (arith, blocks-length ps, n))
     ∙ ap (sets l 0) (ap (λ (r : List ℕ). piece_blocks ps ++ r) (sym (blocks-one p)) ∙ sym (blocks-append ps (p ∷ [])))
 
+-- of the same pieces
+module _ (ps qs : List Piece) where
+  pub size-of : (n : ℕ) → qs ≡ ps → n ≡ 48 * length qs → n ≡ 48 * length ps
+  size-of n e is = is ∙ ap (λ (r : List Piece). 48 * length r) e
+
+  pub blocks-of : (l b : List ℕ) → qs ≡ ps → b ≡ sets l 0 (piece_blocks qs) → b ≡ sets l 0 (piece_blocks ps)
+  blocks-of l b e is = is ∙ ap (λ (r : List Piece). sets l 0 (piece_blocks r)) e
+
 -- ---- the list
 
 module _ (ps : List Piece) (total : ℕ) (e : total ≡ list_length ps) where
   pub list-room : 56 + 48 * length ps + 8 ≡ total
   unfolding list_length
   list-room = omega (arith, e)
+
+  -- no more pieces than the list's, and where their blocks end
+  module _ (qs : List Piece) (h : length qs ≤ length ps) where
+    pub blocks-fit : (room : ℕ) → total ≤ room + 64 → 48 * length qs ≤ room
+    blocks-fit room r = omega (arith, h, r, list-room)
+
+    pub blocks-end : (n : ℕ) → n ≡ 48 * length qs → 56 + n + 8 ≤ total
+    blocks-end n is = omega (arith, h, is, list-room)
 
   pub list-is : (l b₁ b₂ b₃ : List ℕ) (address next : ℕ)
       → b₁ ≡ sets l 0 (first_block (address + total)) → b₂ ≡ sets b₁ 56 (piece_blocks ps) → next ≡ 56 + 48 * length ps → b₃ ≡ sets b₂ next last_block
