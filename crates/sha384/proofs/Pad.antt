@@ -1,7 +1,7 @@
 -- The padding of FIPS 180-4, section 5.1.2: how long it is, that it is the least, and its length field in two words; and
 -- what the code writes of it, and of the digest, into an array of zeros.
 -- Assumes nothing.
-use Rattle.std.proofs.Common.{◌≡◌, ℕ, zero, suc, ◌+◌, ◌-◌, ◌*◌, ◌/◌, ◌%◌, ◌^◌, ◌≤◌, List, [], ◌∷◌, ◌++◌, reverse, length, set, replicate, sym, refl, ap, ◌∙◌, ap₂, append_assoc, append-nil, add-zero, add-suc, div-one, arith, length-append, take, drop, drop-drop}
+use Rattle.std.proofs.Common.{◌≡◌, ℕ, zero, suc, ◌+◌, ◌-◌, ◌*◌, ◌/◌, ◌%◌, ◌^◌, ◌≤◌, List, [], ◌∷◌, ◌++◌, reverse, length, set, replicate, sym, refl, ap, ◌∙◌, ap₂, append_assoc, append-nil, add-zero, add-suc, div-one, arith, length-append, take, drop, drop-drop, take_all}
 use native.Mathlib.Nat.{div-div-eq-div-mul, pow-succ'}
 use mathlib.Core.List.{reverse_aux-eq}
 use lib.ListN.{length-replicate, length-reverse}
@@ -64,6 +64,11 @@ bytes-split m (suc k) v =
 pub word-bytes : (v : ℕ) → to_be_bytes w64 v ≡ bytes 8 v
 unfolding bytes
 word-bytes v = simp div-div-eq-div-mul
+
+-- as many of them as there are, from the first on, are all
+pub word_whole : (ys zs : List ℕ) (v n : ℕ) → ys ≡ take n (drop 0 zs) → zs ≡ to_be_bytes w64 v → n ≡ 8 → ys ≡ to_be_bytes w64 v
+word_whole ys zs v n e f h =
+    e ∙ ap (λ (r : List ℕ). take n r) f ∙ take_all n (to_be_bytes w64 v) (omega (arith, ap length (word-bytes v), length-bytes 8 v, h))
 
 -- writing them over a part of the buffer
 pub word_written : (b ys : List ℕ) (at v n : ℕ) → at + 8 ≤ length b → n ≡ at + 8 - at → ys ≡ to_be_bytes w64 v → put_mid at n b ys ≡ sets b at (bytes 8 v)
