@@ -1,2 +1,2 @@
--- What a program does with its two inputs. Assumes nothing.
+-- The line that stands for an image that is too long. Assumes nothing.
 pub mod Inputs
